@@ -1,0 +1,41 @@
+-- Document 01's number and value for each case of an answer. (24 belongs to the holders question, in the crate tasks.)
+use Prim.Native.Nat.{ℕ}
+use Rattle.answers.specs.Types.{Reply, Moved, Loaded, Took, Lost, Released, Refusal, Sizes, NoTask, NoKind, NoCell, NotZero, NotNow, NoStep, OtherCell, WrongMark, TooShort, NoRoom, Damaged, TooLong, Answer, Replied, Refused}
+
+abbrev pub replyNumber : Reply → ℕ
+replyNumber Moved = 0  -- begun or moved
+replyNumber (Loaded v) = 1  -- load finished, with its value
+replyNumber Took = 2  -- store took
+replyNumber Lost = 3  -- store lost
+replyNumber Released = 4  -- released
+
+-- 0 except for a finished load
+abbrev pub replyValue : Reply → ℕ
+replyValue Moved = 0
+replyValue (Loaded v) = v
+replyValue Took = 0
+replyValue Lost = 0
+replyValue Released = 0
+
+abbrev pub refusalNumber : Refusal → ℕ
+refusalNumber Sizes = 11  -- setup: N, P or K outside the sizes
+refusalNumber NoTask = 12  -- entry's task is P or more
+refusalNumber NoKind = 13  -- kind above 3
+refusalNumber NoCell = 14  -- load or store of a cell N or more
+refusalNumber NotZero = 15  -- a byte that must be zero isn't
+refusalNumber NotNow = 16  -- load while not idle; store or release while not linked
+refusalNumber NoStep = 17  -- go while idle or linked
+refusalNumber OtherCell = 18  -- store on a cell other than the linked one
+refusalNumber WrongMark = 19  -- wrong mark
+refusalNumber TooShort = 20  -- fewer bytes left than the record needs
+refusalNumber NoRoom = 21  -- reply buffer too short for the schedule
+refusalNumber Damaged = 22  -- machine record damaged
+refusalNumber TooLong = 23  -- schedule longer than 65,530 bytes
+
+abbrev pub numberOf : Answer → ℕ
+numberOf (Replied r) = replyNumber r
+numberOf (Refused r) = refusalNumber r
+
+abbrev pub valueOf : Answer → ℕ
+valueOf (Replied r) = replyValue r
+valueOf (Refused r) = 0

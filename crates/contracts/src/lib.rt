@@ -1,0 +1,2 @@
+// No code here: what it means that a contract allows one result.
+pub const VERSION: u8 = 1;

@@ -1,0 +1,37 @@
+-- An entry's ten bytes: the mark, task, kind, cell, a zero byte, value (4).
+use Prim.Native.Nat.{ℕ}
+use mathlib.Core.Bool.{Bool, cond, not, _&&_, _||_}
+use mathlib.Core.List.{List}
+use lib.Dec.{eqb, leb, ltb}
+use lib.ListN.{length, getD}
+use Rattle.wire.specs.Bytes.{entryMark, marked, wordAt}
+use Rattle.entries.specs.Types.{WrongMark, TooShort, Entry, EntryRead, Whole, Refused}
+
+-- the bytes from the front of s, and what is refused before they are read as an entry
+unfoldable pub entryOf : List ℕ → EntryRead
+entryOf s =
+    cond (ltb (length s) 10) (Refused TooShort)  -- 20
+    (cond (not (marked entryMark s)) (Refused WrongMark)  -- 19
+    (Whole
+    (record {
+      task = record { 0 = getD s 2 0 };
+      kind = getD s 3 0;
+      cell = record { 0 = getD s 4 0 };
+      spare = getD s 5 0;
+      value = wordAt s 6;
+    })))
+
+-- kinds 1 and 2, load and store, name a cell
+abbrev pub names : ℕ → Bool
+names kind = eqb kind 1 || eqb kind 2
+
+-- a byte that must be zero isn't: the spare byte; the cell of go and release; the value of all but store
+unfoldable pub padded : Entry → Bool
+padded e =
+    not (eqb (e .spare) 0)
+    || (not (names (e .kind)) && not (eqb (e .cell .0) 0))
+    || (not (eqb (e .kind) 2) && not (eqb (e .value) 0))
+
+-- a load or a store of a cell n or more
+unfoldable pub outside : ℕ → Entry → Bool
+outside n e = names (e .kind) && leb n (e .cell .0)

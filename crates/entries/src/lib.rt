@@ -1,0 +1,157 @@
+// A schedule entry: read from bytes, refused in document 01's order, or turned into what it does. No machine here, only one task's record.
+use answers::Refusal;
+use answers::Reply;
+use steps::Deed;
+use steps::Effect;
+use steps::Seen;
+use steps::Write;
+use tasks::Call;
+use tasks::CellNo;
+use tasks::Task;
+use tasks::TaskNo;
+ghost use mathlib.Core.Path.{_≡_};
+ghost use Rattle.entries.specs.Entry.{entryOf, padded, outside};
+ghost use Rattle.entries.specs.Order.{begins, loadOf, storeOf, releaseOf, callOf, orderOf};
+
+pub struct Entry {
+    pub task: TaskNo,
+    pub kind: u8,
+    pub cell: CellNo,
+    pub spare: u8,
+    pub value: u32,
+}
+
+pub enum EntryRead {
+    Whole(Entry),
+    Refused(Refusal),
+}
+
+// The first ten bytes; what follows them is not looked at. Refusals 20 and 19.
+pub fn read_entry(s: &[u8]) -> EntryRead
+    ensures { λ r. ⌜ r ≡ entryOf (now (s .entry)) ⌝ }
+{
+    if s.len() < 10 {
+        return EntryRead::Refused(Refusal::TooShort);
+    }
+    if !wire::starts_with(s, wire::ENTRY) {
+        return EntryRead::Refused(Refusal::WrongMark);
+    }
+    let y = wire::word_at(s, 6);
+    EntryRead::Whole(Entry {
+        task: TaskNo(s[2]),
+        kind: s[3],
+        cell: CellNo(s[4]),
+        spare: s[5],
+        value: y,
+    })
+}
+
+// Whether a byte that must be zero isn't (15).
+fn padded(e: Entry) -> bool
+    ensures { λ r. ⌜ r ≡ padded e ⌝ }
+{
+    let kind = e.kind;
+    let cell = e.cell.0;
+    let value = e.value;
+    if e.spare != 0 {
+        return true;
+    }
+    match kind {
+        1 => value != 0,
+        2 => false,
+        _ => {
+            if cell != 0 {
+                return true;
+            }
+            value != 0
+        }
+    }
+}
+
+// Whether a cell is named that n cells don't have (14).
+fn outside(n: u8, e: Entry) -> bool
+    ensures { λ r. ⌜ r ≡ outside n e ⌝ }
+{
+    let kind = e.kind;
+    let cell = e.cell.0;
+    match kind {
+        1 => n <= cell,
+        2 => n <= cell,
+        _ => false,
+    }
+}
+
+// A call starts: its task's record changes and no table does.
+fn begin_call(t: Task, c: Call) -> Effect
+    ensures { λ r. ⌜ r ≡ begins t c ⌝ }
+{
+    let u = tasks::lent_begin(t, c);
+    Effect::Does(Deed {
+        task: u,
+        write: Write::Nothing,
+        reply: Reply::Moved,
+    })
+}
+
+fn load(t: Task, x: CellNo) -> Effect
+    ensures { λ r. ⌜ r ≡ loadOf t x ⌝ }
+{
+    if t.phase != 0 {
+        return Effect::Refuses(Refusal::NotNow);
+    }
+    begin_call(t, Call::Load(x))
+}
+
+fn store(t: Task, x: CellNo, y: u32) -> Effect
+    ensures { λ r. ⌜ r ≡ storeOf t x y ⌝ }
+{
+    if t.phase != 6 {
+        return Effect::Refuses(Refusal::NotNow);
+    }
+    if x.0 != t.cell.0 {
+        return Effect::Refuses(Refusal::OtherCell);
+    }
+    begin_call(t, Call::Store(y))
+}
+
+fn release(t: Task) -> Effect
+    ensures { λ r. ⌜ r ≡ releaseOf t ⌝ }
+{
+    if t.phase != 6 {
+        return Effect::Refuses(Refusal::NotNow);
+    }
+    begin_call(t, Call::Release)
+}
+
+// What the kind asks of the task; go is 0.
+fn call(e: Entry, t: Task, s: Seen) -> Effect
+    ensures { λ r. ⌜ r ≡ callOf e t s ⌝ }
+{
+    let kind = e.kind;
+    match kind {
+        0 => steps::step(t, s),
+        1 => load(t, e.cell),
+        2 => store(t, e.cell, e.value),
+        _ => release(t),
+    }
+}
+
+// What an entry does to its task t in a machine of n cells and p tasks, or its first refusal after 20 and 19.
+pub fn order(n: u8, p: u8, e: Entry, t: Task, s: Seen) -> Effect
+    ensures { λ r. ⌜ r ≡ orderOf n p e t s ⌝ }
+{
+    let kind = e.kind;
+    if p <= e.task.0 {
+        return Effect::Refuses(Refusal::NoTask);
+    }
+    if 3 < kind {
+        return Effect::Refuses(Refusal::NoKind);
+    }
+    if padded(e) {
+        return Effect::Refuses(Refusal::NotZero);
+    }
+    if outside(n, e) {
+        return Effect::Refuses(Refusal::NoCell);
+    }
+    call(e, t, s)
+}

@@ -1,0 +1,3 @@
+pub mod Figure1
+pub mod Histories
+pub mod Engine

@@ -1,0 +1,3 @@
+pub mod Types
+pub mod Counts
+pub mod Run

@@ -1,0 +1,76 @@
+-- A run of a whole schedule from bytes: its entries, its replies and its six numbers, built on single entries.
+use Prim.Native.Nat.{ℕ, zero, suc, _+_, _*_, _/_, _%_}
+use mathlib.Core.Bool.{Bool, cond, not, _&&_}
+use mathlib.Core.List.{List, [], _∷_, _++_}
+use lib.Dec.{leb, ltb}
+use lib.ListN.{length, take, drop}
+use Rattle.wire.specs.Bytes.{replyMark, littleEndian}
+use Rattle.answers.specs.Numbers.{refusalNumber, numberOf, valueOf}
+use Rattle.cells.specs.Machine.{inRange}
+use Rattle.cells.specs.Apply.{applyOf}
+use Rattle.runs.specs.Types.{Machine, Applied, NoRoom, Damaged, TooLong, Report, Ran}
+use Rattle.runs.specs.Counts.{accepted, anywhere, loadsAt, stepsAt, turnedAt, swapsAt}
+
+-- how many entries the bytes are, a cut one included
+abbrev pub entriesIn : List ℕ → ℕ
+entriesIn s = (length s + 9) / 10
+
+-- n entries from the front: ten bytes each, or what is left
+unfoldable pub cut : ℕ → List ℕ → List (List ℕ)
+cut zero s = []
+cut (suc n) s = take 10 s ∷ cut n (drop 10 s)
+
+abbrev pub entriesOf : List ℕ → List (List ℕ)
+entriesOf s = cut (entriesIn s) s
+
+-- a reply's 8 bytes: the mark, number, task, value (4)
+abbrev pub replyBytes : Applied → List ℕ
+replyBytes a = replyMark ++ numberOf (a .answer) ∷ a .task ∷ littleEndian (valueOf (a .answer))
+
+-- one reply an entry, up to the first refused one and its own
+unfoldable pub repliesFrom : Machine → List (List ℕ) → List ℕ
+repliesFrom m [] = []
+repliesFrom m (e ∷ es) = replyBytes (applyOf m e) ++ cond (accepted (applyOf m e .answer)) (repliesFrom (applyOf m e .machine) es) []
+
+-- no entry tried: the number in its place, all counts 0
+abbrev pub reportOf : ℕ → Report
+reportOf r = record { accepted = 0; refusal = r; loads = 0; «load_steps» = 0; «turned_back» = 0; swaps = 0 }
+
+-- one entry more accepted, at machine m
+abbrev pub counted : Machine → List ℕ → Report → Report
+counted m e r =
+    record {
+      accepted = r .accepted + 1;
+      refusal = r .refusal;
+      loads = r .loads + loadsAt anywhere m e;
+      «load_steps» = r .«load_steps» + stepsAt anywhere m e;
+      «turned_back» = r .«turned_back» + turnedAt anywhere m e;
+      swaps = r .swaps + swapsAt anywhere m e;
+    }
+
+abbrev pub refusedAt : ℕ → Report → Report
+refusedAt n r =
+    record { accepted = r .accepted; refusal = n; loads = r .loads; «load_steps» = r .«load_steps»; «turned_back» = r .«turned_back»; swaps = r .swaps }
+
+-- the entries one after the other; the first refused one ends the run
+unfoldable pub ranFrom : Machine → Report → List (List ℕ) → Ran
+ranFrom m r [] = record { machine = m; report = r }
+ranFrom m r (e ∷ es) =
+    cond (accepted (applyOf m e .answer)) (ranFrom (applyOf m e .machine) (counted m e r) es)
+    (record { machine = applyOf m e .machine; report = refusedAt (numberOf (applyOf m e .answer)) r })
+
+-- a run on machine m of the bytes s, with room for `room` bytes of replies
+unfoldable pub ranOf : Machine → List ℕ → ℕ → Ran
+ranOf m s room =
+    cond (not (inRange m)) (record { machine = m; report = reportOf (refusalNumber Damaged) })  -- 22 (ranges)
+    (cond (ltb 65530 (length s)) (record { machine = m; report = reportOf (refusalNumber TooLong) })  -- 23
+    (cond (ltb room (8 * entriesIn s)) (record { machine = m; report = reportOf (refusalNumber NoRoom) })  -- 21
+    (ranFrom m (reportOf 0) (entriesOf s))))
+
+-- the replies of that run: none where no entry was tried
+unfoldable pub repliesOf : Machine → List ℕ → ℕ → List ℕ
+repliesOf m s room = cond (inRange m && leb (length s) 65530 && leb (8 * entriesIn s) room) (repliesFrom m (entriesOf s)) []
+
+-- the reply buffer at exit: the replies, and after them what it held
+unfoldable pub bufferOf : Machine → List ℕ → List ℕ → List ℕ
+bufferOf m s out = repliesOf m s (length out) ++ drop (length (repliesOf m s (length out))) out

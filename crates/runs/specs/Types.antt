@@ -1,0 +1,11 @@
+-- The types of a run under one name.
+pub use Rattle.tasks.specs.declared.TaskNo.{TaskNo}
+pub use Rattle.tasks.specs.declared.Task.{Task}
+pub use Rattle.answers.specs.declared.Answer.{Answer}
+pub use Rattle.answers.specs.declared.Answer.the-variants.{Replied, Refused}
+pub use Rattle.answers.specs.declared.Refusal.{Refusal}
+pub use Rattle.answers.specs.declared.Refusal.the-variants.{NoRoom, Damaged, TooLong}
+pub use Rattle.cells.specs.declared.Machine.{Machine}
+pub use Rattle.cells.specs.declared.Applied.{Applied}
+pub use Rattle.runs.specs.declared.Report.{Report}
+pub use Rattle.runs.specs.declared.Ran.{Ran}

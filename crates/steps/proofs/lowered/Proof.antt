@@ -1,0 +1,20 @@
+-- `lowered`: the test that refuses, then the lowered count. Assumes nothing.
+use borrow.Author.Tests.{eq-eqb, ne-eqb}
+use Rattle.steps.specs.Table.{loweredOf}
+use borrow.Author.Needs.{needs}
+use Rattle.steps.proofs.lowered.Statement.{statement}
+use Rattle.steps.proofs.lowered.Tie as tie
+
+returns : tie.Need-returns
+unfolding loweredOf
+returns c = rw (eq-eqb _ 0 (c .if1 .taken))
+
+sub-down : tie.Need-sub-down
+sub-down c = search needs
+
+returns-2 : tie.Need-returns-2
+unfolding loweredOf
+returns-2 c = rw (ne-eqb _ 0 (c .if1 .left))
+
+pub lowered-spec : {M : Type 1} → statement M
+lowered-spec = tie.close (tie.spec returns sub-down returns-2)

@@ -1,0 +1,64 @@
+-- `step`: the phase picks the rows' function, or the refusal. Assumes nothing.
+use Prim.Native.Nat.{ℕ, _≤_}
+use native.Mathlib.Omega.{arith}
+use Rattle.tallies.proofs.Lists.{within-true}
+use Rattle.steps.specs.Table.{rows}
+use Rattle.steps.proofs.Rows.{effect-at, effect-beyond}
+use borrow.Author.Needs.{needs}
+use Rattle.steps.proofs.step.Statement.{statement}
+use Rattle.steps.proofs.step.Tie as tie
+
+lowered-requires : tie.Need-lowered-requires
+lowered-requires c κs = search needs
+
+onward-requires : tie.Need-onward-requires
+onward-requires c κs = search needs
+
+settled-requires : tie.Need-settled-requires
+settled-requires c κs = search needs
+
+load-step-requires : tie.Need-load-step-requires
+load-step-requires c κs = within-true 1 5 (c .before .before .args .t .phase) (omega arith) (omega arith)
+
+store-step-requires : tie.Need-store-step-requires
+store-step-requires c κs = within-true 7 13 (c .before .before .before .args .t .phase) (omega arith) (omega arith)
+
+returns : tie.Need-returns
+unfolding rows
+returns c = rw (effect-at (c .before .args .t) (c .before .args .s) 0 (c .match .keys1))
+
+returns-2 : tie.Need-returns-2
+unfolding rows
+returns-2 c = rw (effect-at (c .before .args .t) (c .before .args .s) 6 (c .match .keys2))
+
+returns-3 : tie.Need-returns-3
+unfolding rows
+returns-3 c = let a = c .before .before .before .before .args in
+    rw (effect-at (a .t) (a .s) 14 (c .before .before .before .match .keys3), c .settled .ensures, c .before .onward .ensures, c .before .before .lowered .ensures)
+
+returns-4 : tie.Need-returns-4
+returns-4 c = search needs
+
+returns-5 : tie.Need-returns-5
+returns-5 c = search needs
+
+returns-6 : tie.Need-returns-6
+returns-6 c = let a = c .before .before .before .args in
+    let late : 15 ≤ a .t .phase = omega arith in
+    rw (effect-beyond (a .t) (a .s) late)
+
+pub step-spec : {M : Type 1} → statement M
+step-spec =
+    tie.close
+    (tie.spec
+    lowered-requires
+    onward-requires
+    settled-requires
+    load-step-requires
+    store-step-requires
+    returns
+    returns-2
+    returns-3
+    returns-4
+    returns-5
+    returns-6)

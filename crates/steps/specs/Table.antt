@@ -1,0 +1,108 @@
+-- The step table of document 01, row by row in its order. A row goes from a task's record and what it sees to its deed: the task's next
+-- record, the one place written, the reply.
+use Prim.Native.Nat.{ℕ, _+_, _-_, _%_}
+use mathlib.Core.Bool.{cond}
+use mathlib.Core.List.{List, [], _∷_}
+use lib.Dec.{eqb, ltb}
+use lib.ListN.{getD}
+use Rattle.tasks.specs.Records.{nodeNo, onward, holding, owning, probing}
+use Rattle.steps.specs.Types.{NodeNo, Task, Reply, Moved, Loaded, Took, Lost, Released, NoStep, Damaged, Seen, Write, Nothing, Point, Count, Value, Counted, To, Broken, Effect, Does, Refuses}
+
+-- (v + 1) mod k. K is never 0 in a record that is in range; the definition gives 0 there.
+unfoldable pub after : ℕ → NodeNo → NodeNo
+after k v = nodeNo (cond (eqb k 0) 0 ((v .0 + 1) % k))
+
+-- the count c of node v up by 1; a record of p tasks is damaged where it would go past p + 1 (or past a byte, where p is 255)
+unfoldable pub raisedOf : ℕ → NodeNo → ℕ → Counted
+raisedOf p v c = cond (ltb p c) Broken (cond (eqb c 255) Broken (To (Count v (c + 1))))
+
+-- the count c of node v down by 1; the record is damaged where it is 0
+unfoldable pub loweredOf : NodeNo → ℕ → Counted
+loweredOf v c = cond (eqb c 0) Broken (To (Count v (c - 1)))
+
+abbrev pub does : Task → Write → Reply → Effect
+does t w r = Does (record { task = t; write = w; reply = r })
+
+-- a step that counts: its deed, or refusal 22
+abbrev pub counting : Counted → Task → Reply → Effect
+counting (To w) t r = does t w r
+counting Broken t r = Refuses Damaged
+
+-- the count of m
+abbrev pub raising : Task → Seen → Counted
+raising t s = raisedOf (s .tasks) (t .held) (s .«held_count»)
+
+abbrev pub lowering : Task → Seen → Counted
+lowering t s = loweredOf (t .held) (s .«held_count»)
+
+abbrev pub Row : Type 0
+Row = Task → Seen → Effect
+
+-- 0 idle, 6 linked: no step
+abbrev pub none : Row
+none t s = Refuses NoStep
+
+-- 1 L1: m becomes the node of x; 2
+abbrev pub l1 : Row
+l1 t s = does (onward (holding t (s .here)) 2) Nothing Moved
+
+-- 2 L2: count of m up by 1; 3
+abbrev pub l2 : Row
+l2 t s = counting (raising t s) (onward t 3) Moved
+
+-- 3 L3: compare m with the node of x; equal 4, else 5
+abbrev pub l3 : Row
+l3 t s = cond (eqb (t .held .0) (s .here .0)) (does (onward t 4) Nothing Moved) (does (onward t 5) Nothing Moved)
+
+-- 4 L4: copy node m, load finished; 6
+abbrev pub l4 : Row
+l4 t s = does (onward t 6) Nothing (Loaded (s .«held_value»))
+
+-- 5 L5: count of m down by 1; 1
+abbrev pub l5 : Row
+l5 t s = counting (lowering t s) (onward t 1) Moved
+
+-- 7 S1: own node takes Y; 8
+abbrev pub s1 : Row
+s1 t s = does (onward t 8) (Value (t .own) (t .value)) Moved
+
+-- 8 S2: if x is still at m, x points at own node; took 9, else 13
+abbrev pub s2 : Row
+s2 t s = cond (eqb (t .held .0) (s .here .0)) (does (onward t 9) (Point (t .cell) (t .own)) Moved) (does (onward t 13) Nothing Moved)
+
+-- 9 S3: count of m down by 1; 10
+abbrev pub s3 : Row
+s3 t s = counting (lowering t s) (onward t 10) Moved
+
+-- 10 S4: if count of m is 1, own becomes m, store took; 0, else 11
+abbrev pub s4 : Row
+s4 t s = cond (eqb (s .«held_count») 1) (does (onward (owning t (t .held)) 0) Nothing Took) (does (onward t 11) Nothing Moved)
+
+-- 11 S5: count of m down by 1; cursor is (m+1) mod K; 12
+abbrev pub s5 : Row
+s5 t s = counting (lowering t s) (onward (probing t (after (s .nodes) (t .held))) 12) Moved
+
+-- 12 S6: if the cursor's node has count 0: count 1, own is that node, store took; else cursor on by 1 mod K; 0, else 12
+abbrev pub s6 : Row
+s6 t s =
+    cond (eqb (s .«cursor_count») 0) (does (onward (owning t (t .cursor)) 0) (Count (t .cursor) 1) Took)
+    (does (onward (probing t (after (s .nodes) (t .cursor))) 12) Nothing Moved)
+
+-- 13 S7: count of m down by 1, store lost; 0
+abbrev pub s7 : Row
+s7 t s = counting (lowering t s) (onward t 0) Lost
+
+-- 14 R1: count of m down by 1, released; 0
+abbrev pub r1 : Row
+r1 t s = counting (lowering t s) (onward t 0) Released
+
+-- above 14 there is no phase
+abbrev pub beyond : Row
+beyond t s = Refuses Damaged
+
+unfoldable pub rows : List Row
+rows = none ∷ l1 ∷ l2 ∷ l3 ∷ l4 ∷ l5 ∷ none ∷ s1 ∷ s2 ∷ s3 ∷ s4 ∷ s5 ∷ s6 ∷ s7 ∷ r1 ∷ []
+
+-- what a step does is decided by the phase number
+unfoldable pub effectOf : Task → Seen → Effect
+effectOf t s = getD rows (t .phase) beyond t s

@@ -1,0 +1,205 @@
+// The step table: what one atomic step does, as data. A step looks at a few numbers, changes its own task's record and writes one place at most.
+use answers::Refusal;
+use answers::Reply;
+use tasks::CellNo;
+use tasks::NodeNo;
+use tasks::Task;
+ghost use mathlib.Core.Path.{_≡_};
+ghost use mathlib.Core.Bool.{true};
+ghost use Rattle.tallies.specs.Lists.{within};
+ghost use Rattle.steps.specs.Table.{after, raisedOf, loweredOf, does, counting, s2, s4, s6, effectOf};
+
+// What a step may look at besides its task's record: the node of x, the counts of m and of the cursor's node, the value of m, P and K.
+pub struct Seen {
+    pub here: NodeNo,
+    pub held_count: u8,
+    pub cursor_count: u8,
+    pub held_value: u32,
+    pub tasks: u8,
+    pub nodes: u8,
+}
+
+// The one place of the tables that a step writes.
+pub enum Write {
+    Nothing,
+    Point(CellNo, NodeNo),
+    Count(NodeNo, u8),
+    Value(NodeNo, u32),
+}
+
+// A count raised or lowered: the write that does it, or a damaged record.
+pub enum Counted {
+    To(Write),
+    Broken,
+}
+
+pub struct Deed {
+    pub task: Task,
+    pub write: Write,
+    pub reply: Reply,
+}
+
+pub enum Effect {
+    Does(Deed),
+    Refuses(Refusal),
+}
+
+// The node after v, in a pool of k.
+pub fn next_node(k: u8, v: NodeNo) -> NodeNo
+    ensures { λ r. ⌜ r ≡ after k v ⌝ }
+{
+    if k == 0 {
+        return NodeNo(0);
+    }
+    let i = v.0 as u16;
+    let next = ((i + 1) % (k as u16)) as u8;
+    NodeNo(next)
+}
+
+// The one place where a count goes up: node v's, which is now `count`, where there are p tasks.
+pub fn raised(p: u8, v: NodeNo, count: u8) -> Counted
+    ensures { λ r. ⌜ r ≡ raisedOf p v count ⌝ }
+{
+    if p < count {
+        return Counted::Broken;
+    }
+    if count == 255 {
+        return Counted::Broken;
+    }
+    let up = count + 1;
+    Counted::To(Write::Count(v, up))
+}
+
+// The one place where a count goes down.
+pub fn lowered(v: NodeNo, count: u8) -> Counted
+    ensures { λ r. ⌜ r ≡ loweredOf v count ⌝ }
+{
+    if count == 0 {
+        return Counted::Broken;
+    }
+    let down = count - 1;
+    Counted::To(Write::Count(v, down))
+}
+
+fn done(t: Task, w: Write, r: Reply) -> Effect
+    ensures { λ e. ⌜ e ≡ does t w r ⌝ }
+{
+    Effect::Does(Deed {
+        task: t,
+        write: w,
+        reply: r,
+    })
+}
+
+fn settled(c: Counted, t: Task, r: Reply) -> Effect
+    ensures { λ e. ⌜ e ≡ counting c t r ⌝ }
+{
+    match c {
+        Counted::To(w) => done(t, w, r),
+        Counted::Broken => Effect::Refuses(Refusal::Damaged),
+    }
+}
+
+// Phases 1 to 5.
+fn load_step(t: Task, s: Seen) -> Effect
+    requires { ⌜ within 1 5 (t .phase) ≡ true ⌝ }
+    ensures { λ r. ⌜ r ≡ effectOf t s ⌝ }
+{
+    let f = t.phase;
+    match f {
+        1 => done(t.holding(s.here).onward(2), Write::Nothing, Reply::Moved),
+        2 => settled(
+            raised(s.tasks, t.held, s.held_count),
+            t.onward(3),
+            Reply::Moved,
+        ),
+        3 => {
+            if t.held.0 == s.here.0 {
+                done(t.onward(4), Write::Nothing, Reply::Moved)
+            } else {
+                done(t.onward(5), Write::Nothing, Reply::Moved)
+            }
+        }
+        4 => done(t.onward(6), Write::Nothing, Reply::Loaded(s.held_value)),
+        _ => settled(lowered(t.held, s.held_count), t.onward(1), Reply::Moved),
+    }
+}
+
+// S2: the swap compares node numbers, never values.
+fn swap_step(t: Task, s: Seen) -> Effect
+    ensures { λ r. ⌜ r ≡ s2 t s ⌝ }
+{
+    if t.held.0 == s.here.0 {
+        let x = t.cell;
+        let o = t.own;
+        done(t.onward(9), Write::Point(x, o), Reply::Moved)
+    } else {
+        done(t.onward(13), Write::Nothing, Reply::Moved)
+    }
+}
+
+// S4: the storing task itself still holds m, so m is free for it at a count of 1.
+fn keep_step(t: Task, s: Seen) -> Effect
+    ensures { λ r. ⌜ r ≡ s4 t s ⌝ }
+{
+    if s.held_count == 1 {
+        done(t.owning(t.held).onward(0), Write::Nothing, Reply::Took)
+    } else {
+        done(t.onward(11), Write::Nothing, Reply::Moved)
+    }
+}
+
+// S6: the test of the cursor's node and the setting of its count are one step.
+fn seek_step(t: Task, s: Seen) -> Effect
+    ensures { λ r. ⌜ r ≡ s6 t s ⌝ }
+{
+    if s.cursor_count == 0 {
+        let v = t.cursor;
+        done(t.owning(v).onward(0), Write::Count(v, 1), Reply::Took)
+    } else {
+        done(
+            t.probing(next_node(s.nodes, t.cursor)).onward(12),
+            Write::Nothing,
+            Reply::Moved,
+        )
+    }
+}
+
+// Phases 7 to 13.
+fn store_step(t: Task, s: Seen) -> Effect
+    requires { ⌜ within 7 13 (t .phase) ≡ true ⌝ }
+    ensures { λ r. ⌜ r ≡ effectOf t s ⌝ }
+{
+    let f = t.phase;
+    match f {
+        7 => {
+            let o = t.own;
+            done(t.onward(8), Write::Value(o, t.value), Reply::Moved)
+        }
+        8 => swap_step(t, s),
+        9 => settled(lowered(t.held, s.held_count), t.onward(10), Reply::Moved),
+        10 => keep_step(t, s),
+        11 => settled(
+            lowered(t.held, s.held_count),
+            t.probing(next_node(s.nodes, t.held)).onward(12),
+            Reply::Moved,
+        ),
+        12 => seek_step(t, s),
+        _ => settled(lowered(t.held, s.held_count), t.onward(0), Reply::Lost),
+    }
+}
+
+// What the step of a task does, decided by its phase.
+pub fn step(t: Task, s: Seen) -> Effect
+    ensures { λ r. ⌜ r ≡ effectOf t s ⌝ }
+{
+    let f = t.phase;
+    match f {
+        0 => Effect::Refuses(Refusal::NoStep),
+        1..=5 => load_step(t, s),
+        6 => Effect::Refuses(Refusal::NoStep),
+        7..=13 => store_step(t, s),
+        14 => settled(lowered(t.held, s.held_count), t.onward(0), Reply::Released),
+        _ => Effect::Refuses(Refusal::Damaged),
+    }
+}

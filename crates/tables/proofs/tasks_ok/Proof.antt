@@ -1,0 +1,66 @@
+-- `tasks_ok`: the records passed are in range. Assumes nothing.
+use Prim.Native.Nat.{ℕ, _≤_, _-_, min}
+use mathlib.Core.Path.{_≡_, sym, ap, _∙_}
+use mathlib.Core.Bool.{true}
+use native.Mathlib.Omega.{arith}
+use borrow.Author.Tests.{not-true, not-false}
+use Rattle.tallies.specs.Lists.{every}
+use Rattle.tallies.proofs.Lists.{every-none, every-more, every-false}
+use Rattle.tasks.specs.Records.{taskOk}
+use Rattle.tables.specs.Tables.{taskOkIn}
+use borrow.Author.Needs.{needs}
+use Rattle.tables.proofs.tasks_ok.Statement.{statement}
+use Rattle.tables.proofs.tasks_ok.Tie as tie
+
+abbrev Inv-loop : tie.InvT-loop
+Inv-loop tasks n p k i₀ i = ((i ≤ p) × (i ≤ 16)) × (every (taskOkIn tasks n k) i ≡ true)
+
+abbrev μ-loop : tie.MeasureT-loop
+μ-loop tasks n p k i₀ i = p - i
+
+loop-holds : tie.Need-loop-holds Inv-loop μ-loop
+loop-holds c = (omega arith, every-none _)
+
+returns : tie.Need-returns Inv-loop μ-loop
+returns c = let e : c .before .before .loop .i ≡ min (c .before .before .before .args .p) 16 = omega arith in sym (rw e at (c .before .before .loop .inv .1))
+
+task-at-requires : tie.Need-task-at-requires Inv-loop μ-loop
+task-at-requires c κs = search needs
+
+in-range-requires : tie.Need-in-range-requires Inv-loop μ-loop
+in-range-requires c κs = search needs
+
+returns-2 : tie.Need-returns-2 Inv-loop μ-loop
+returns-2 c = let a = c .before .before .before .before .before .before .args in
+    let l = c .before .before .before .before .before .loop in
+    sym (every-false (taskOkIn (a .tasks) (a .n) (a .k)) _ (l .i) (omega arith) (rw (← c .before .before .task-at .ensures) (sym (c .before .in-range .ensures) ∙ not-true _ (c .if2 .taken))))
+
+add-i : tie.Need-add-i Inv-loop μ-loop
+add-i c = search needs
+
+loop-less : tie.Need-loop-less Inv-loop μ-loop
+loop-less c = search needs
+
+loop-again : tie.Need-loop-again Inv-loop μ-loop
+loop-again c = let a = c .before .before .before .before .before .before .args in
+    let l = c .before .before .before .before .before .loop in
+    (omega arith, every-more (taskOkIn (a .tasks) (a .n) (a .k)) _ (l .inv .1) (rw (← c .before .before .task-at .ensures) (sym (c .before .in-range .ensures) ∙ not-false _ (c .if2 .left))))
+
+returns-3 : tie.Need-returns-3 Inv-loop μ-loop
+returns-3 c = let e : c .before .loop .i ≡ min (c .before .before .args .p) 16 = omega arith in sym (rw e at (c .before .loop .inv .1))
+
+pub tasks-ok-spec : {M : Type 1} → statement M
+tasks-ok-spec =
+    tie.close
+    (tie.spec
+    Inv-loop
+    μ-loop
+    loop-holds
+    returns
+    task-at-requires
+    in-range-requires
+    returns-2
+    add-i
+    loop-less
+    loop-again
+    returns-3)

@@ -1,0 +1,2 @@
+// No code here: counting, and lists that are tested or filled place by place.
+pub const VERSION: u8 = 1;

@@ -1,0 +1,47 @@
+// Bytes: marks, little-endian numbers, and the reply record.
+ghost use mathlib.Core.Path.{_≡_};
+ghost use lib.ListN.{getD};
+ghost use Rattle.wire.specs.Bytes.{word, wordAt, marked};
+
+// The two bytes that each record starts with.
+pub const SETUP: [u8; 2] = [0x53, 0x55];
+
+pub const ENTRY: [u8; 2] = [0x45, 0x4E];
+
+pub const REPLY: [u8; 2] = [0x41, 0x4E];
+
+// Byte i, and 0 past the end.
+pub fn byte_at(s: &[u8], i: usize) -> u8
+    ensures { λ r. ⌜ r ≡ getD (now (s .entry)) i 0 ⌝ }
+{
+    if i < s.len() { s[i] } else { 0 }
+}
+
+// Four bytes, the lowest first.
+pub fn little_endian(a: u8, b: u8, c: u8, d: u8) -> u32
+    ensures { λ r. ⌜ r ≡ word a b c d ⌝ }
+{
+    (a as u32) + 256 * (b as u32) + 65536 * (c as u32) + 16777216 * (d as u32)
+}
+
+// The number in the four bytes from `at` on.
+pub fn word_at(s: &[u8], at: u32) -> u32
+    ensures { λ r. ⌜ r ≡ wordAt (now (s .entry)) at ⌝ }
+{
+    let i = at as usize;
+    little_endian(
+        byte_at(s, i),
+        byte_at(s, i + 1),
+        byte_at(s, i + 2),
+        byte_at(s, i + 3),
+    )
+}
+
+// Whether the bytes start with the mark.
+pub fn starts_with(s: &[u8], mark: [u8; 2]) -> bool
+    ensures { λ r. ⌜ r ≡ marked mark (now (s .entry)) ⌝ }
+{
+    let a = byte_at(s, 0);
+    let b = byte_at(s, 1);
+    if a == mark[0] { b == mark[1] } else { false }
+}

@@ -1,0 +1,88 @@
+# Records of document 01 as bytes, for the scripts beside this file.
+# To be read in with '.'; each function writes its record to standard output.
+
+# numbers 0 to 255, one byte each
+bytes() {
+    # shellcheck disable=SC2059  # the inner printf makes the octal escapes
+    [ $# -eq 0 ] || printf "$(printf '\\%03o' "$@")"
+}
+
+# the four bytes of a number, lowest first, as numbers for bytes
+four() {
+    echo "$(($1 & 255)) $(($1 >> 8 & 255)) $(($1 >> 16 & 255)) $(($1 >> 24 & 255))"
+}
+
+# setup N P K VALUE...
+setup() {
+    bytes 83 85 "$1" "$2" "$3" 0
+    shift 3
+    for value in "$@"; do
+        # shellcheck disable=SC2046
+        bytes $(four "$value")
+    done
+}
+
+# entry TASK KIND CELL VALUE
+entry() {
+    # shellcheck disable=SC2046
+    bytes 69 78 "$1" "$2" "$3" 0 $(four "$4")
+}
+
+# go TASK [TIMES]
+go() {
+    times=${2:-1}
+    while [ "$times" -gt 0 ]; do
+        entry "$1" 0 0 0
+        times=$((times - 1))
+    done
+}
+
+# load TASK CELL, store TASK CELL VALUE, release TASK: the start of a call
+load() { entry "$1" 1 "$2" 0; }
+store() { entry "$1" 2 "$2" "$3"; }
+release() { entry "$1" 3 0 0; }
+
+# The inputs of document 01's cases that are also kept in examples/.
+
+# one task loads 7 and stores 9
+case03() {
+    setup 1 1 3 7
+    load 0 0; go 0 4
+    store 0 0 9; go 0 4
+}
+
+# task 0 stops after L1; task 1 stores twice, and node 0 is in the cell again
+case09() {
+    setup 1 2 5 7
+    load 0 0; go 0
+    load 1 0; go 1 4
+    store 1 0 9; go 1 4
+    load 1 0; go 1 4
+    store 1 0 11; go 1 4
+    go 0 3
+}
+
+# both linked; task 1 stores and looks for a free node, task 0's store is lost
+case10() {
+    setup 1 2 5 7
+    load 0 0; go 0 4
+    load 1 0; go 1 4
+    store 1 0 9; go 1 8
+    store 0 0 8; go 0 3
+}
+
+# task 0 stops after L1; task 1 stores once, so task 0's check turns it back
+case11() {
+    setup 1 2 5 7
+    load 0 0; go 0
+    load 1 0; go 1 4
+    store 1 0 9; go 1 4
+    go 0 7
+}
+
+# a load and its release
+case12() {
+    setup 1 2 5 7
+    load 0 0; go 0 4
+    release 0; go 0
+}

@@ -1,0 +1,316 @@
+#include "coverage.h"
+
+#include "readable.h"
+
+#include <string.h>
+
+/* All faults at once ----------------------------------------------------- */
+
+/*
+ * bench_apply stops at its first fault.  These look for each fault alone, to
+ * tell how often the order of two refusals was put to the test.
+ */
+
+static void note_others(unsigned long order[NUMBERS][NUMBERS], unsigned given,
+                        const bool fault[NUMBERS])
+{
+    for (unsigned i = 0; i < NUMBERS; i++)
+        if (fault[i] && i != given)
+            order[given][i]++;
+}
+
+static void entry_faults(const struct machine *m, const uint8_t *e, size_t left,
+                         bool fault[NUMBERS])
+{
+    fault[BAD_MARK] = (left > 0 && e[0] != 'E') || (left > 1 && e[1] != 'N');
+    fault[CUT] = left < ENTRY_BYTES;
+    if (fault[CUT])
+        return;
+
+    uint8_t task = e[2], kind = e[3], cell = e[4];
+    bool value = e[6] != 0 || e[7] != 0 || e[8] != 0 || e[9] != 0;
+    bool names_cell = kind == LOAD || kind == STORE;
+
+    fault[BAD_TASK] = task >= m->tasks;
+    fault[BAD_KIND] = kind >= KINDS;
+    fault[NOT_ZERO] = e[5] != 0 || (cell != 0 && (kind == GO || kind == RELEASE)) ||
+                      (value && kind < KINDS && kind != STORE);
+    fault[BAD_CELL] = names_cell && cell >= m->cells;
+    if (fault[BAD_TASK])
+        return;
+
+    const struct task *t = &m->task[task];
+
+    fault[BAD_CALL] = (kind == LOAD && t->phase != IDLE) ||
+                      ((kind == STORE || kind == RELEASE) && t->phase != LINKED);
+    fault[BAD_GO] = kind == GO && (t->phase == IDLE || t->phase == LINKED);
+    fault[OTHER_CELL] = kind == STORE && cell != t->cell;
+}
+
+static void setup_faults(const uint8_t *s, size_t length, bool fault[NUMBERS])
+{
+    fault[BAD_MARK] = (length > 0 && s[0] != 'S') || (length > 1 && s[1] != 'U');
+    fault[CUT] = length < SETUP_HEAD;
+    if (fault[CUT])
+        return;
+    fault[CUT] = length < SETUP_HEAD + 4u * s[2];
+    fault[NOT_ZERO] = s[5] != 0;
+    fault[BAD_SIZES] = s[2] < 1 || s[2] > 64 || s[3] < 1 || s[3] > 16 ||
+                       s[4] < s[2] + 2 * s[3] || s[4] > 128;
+}
+
+/* The walk --------------------------------------------------------------- */
+
+/* What has to be remembered from entry to entry of one input. */
+struct walk {
+    unsigned long swaps[MAX_CELLS];    /* swaps each cell has seen */
+    unsigned long seen[MAX_TASKS];     /* the same, when the task read its cell */
+    unsigned long busy_met[MAX_TASKS]; /* busy nodes in the task's S6 walk */
+    bool turned[MAX_TASKS];
+};
+
+static void cover_load_step(struct coverage *c, struct walk *w,
+                            const struct machine *before,
+                            const struct machine *after, struct answer a)
+{
+    const struct task *t = &after->task[a.task];
+
+    if (a.met == L1)
+        w->seen[a.task] = w->swaps[t->cell];
+    if (a.met == L2 && before->count[t->held] == 0)
+        c->raised_free++;
+    if (a.met == L3 && t->phase == L5) {
+        c->turned_back++;
+        w->turned[a.task] = true;
+    }
+    if (a.met == L3 && t->phase == L4 && w->seen[a.task] != w->swaps[t->cell])
+        c->came_back++;
+}
+
+static void cover_store_step(struct coverage *c, struct walk *w,
+                             const struct machine *before,
+                             const struct machine *after, struct answer a)
+{
+    const struct task *t = &after->task[a.task];
+
+    if (a.met == S2 && t->phase == S3)
+        w->swaps[t->cell]++;
+    if (a.met == S2 && t->phase == S7 &&
+        before->value[before->node_of[t->cell]] == before->value[t->held])
+        c->lost_equal++;
+    if (a.met == S4 && a.number == TOOK)
+        c->ended_at_s4++;
+    if (a.met == S5)
+        w->busy_met[a.task] = 0;
+    if (a.met == S6 && a.number == MOVED) {
+        w->busy_met[a.task]++;
+        if (t->cursor == 0) {
+            c->cursor_wraps++;
+            c->wraps_at_128 += after->nodes == MAX_NODES;
+        }
+    }
+    if (a.met == S6 && a.number == TOOK) {
+        unsigned long walked = w->busy_met[a.task];
+
+        c->ended_at_s6++;
+        if (walked >= 3)
+            c->long_walks++;
+        if (walked > c->longest_walk)
+            c->longest_walk = walked;
+    }
+}
+
+static void cover_entry(struct coverage *c, struct walk *w, struct machine *m,
+                        const uint8_t *entry, size_t left, bool *stop)
+{
+    struct machine before = *m;
+    struct answer a = bench_apply(m, entry, left);
+
+    c->number[a.number]++;
+    *stop = is_refusal(a.number);
+    if (*stop) {
+        bool fault[NUMBERS] = { false };
+
+        entry_faults(m, entry, left, fault);
+        note_others(c->entry_order, a.number, fault);
+        if (a.number == CUT)
+            c->cut[left]++;
+        return;
+    }
+    c->phase[a.met]++;
+    cover_load_step(c, w, &before, m, a);
+    cover_store_step(c, w, &before, m, a);
+
+    unsigned long busy = 0;
+
+    for (unsigned p = 0; p < m->tasks; p++)
+        busy += m->task[p].phase != IDLE;
+    if (busy > c->most_busy)
+        c->most_busy = busy;
+}
+
+static void cover_refused_setup(struct coverage *c, unsigned refusal,
+                                const uint8_t *input, size_t length)
+{
+    bool fault[NUMBERS] = { false };
+
+    c->number[refusal]++;
+    setup_faults(input, length, fault);
+    note_others(c->setup_order, refusal, fault);
+    if (refusal == CUT)
+        c->setup_cut[length < SETUP_HEAD ? length : SETUP_HEAD]++;
+}
+
+void cover(struct coverage *c, const uint8_t *input, size_t length)
+{
+    struct machine m;
+    struct walk w;
+    size_t at;
+    unsigned refusal = bench_setup(&m, input, length, &at);
+    unsigned turned = 0;
+
+    memset(&w, 0, sizeof w);
+    c->inputs++;
+    c->bytes += length;
+    if (refusal != 0) {
+        cover_refused_setup(c, refusal, input, length);
+        return;
+    }
+    if (length - at > MAX_SCHEDULE) {
+        c->number[TOO_LONG]++;
+        return;
+    }
+    c->empty_schedules += length == at;
+    c->full_schedules += length - at == MAX_SCHEDULE;
+
+    for (bool stop = false; at < length && !stop; at += ENTRY_BYTES)
+        cover_entry(c, &w, &m, input + at, length - at, &stop);
+
+    for (unsigned p = 0; p < m.tasks; p++)
+        turned += w.turned[p];
+    c->turned_two += turned >= 2;
+}
+
+/* The tables ------------------------------------------------------------- */
+
+/* Pairs of faults that one record can have: the first is the one to give. */
+static const uint8_t ENTRY_ORDERS[][2] = {
+    { 20, 19 },
+    { 19, 12 }, { 19, 13 }, { 19, 15 }, { 19, 14 }, { 19, 16 }, { 19, 17 }, { 19, 18 },
+    { 12, 13 }, { 12, 15 }, { 12, 14 },
+    { 13, 15 },
+    { 15, 14 }, { 15, 16 }, { 15, 17 }, { 15, 18 },
+    { 14, 16 }, { 14, 18 },
+    { 16, 18 },
+};
+
+static const uint8_t SETUP_ORDERS[][2] = {
+    { 20, 19 }, /* cut in the head */
+    { 19, 15 }, { 19, 11 }, { 19, 20 },
+    { 15, 11 }, { 15, 20 },
+    { 11, 20 },
+};
+
+#define COUNT_OF(array) (sizeof(array) / sizeof(array)[0])
+
+/* Not 21, 22 and 24: the program's own buffer is large enough, no machine
+ * from an accepted setup is damaged, and no bytes ask the holders question. */
+static bool reachable(unsigned number)
+{
+    return number <= RELEASED || (number >= BAD_SIZES && number < NO_ROOM) ||
+           number == TOO_LONG;
+}
+
+static unsigned missing(FILE *out, unsigned long met, const char *what,
+                        unsigned number)
+{
+    if (met > 0)
+        return 0;
+    fprintf(out, "never met: %s %u\n", what, number);
+    return 1;
+}
+
+static unsigned print_orders(FILE *out, const char *what,
+                             const uint8_t pairs[][2], size_t count,
+                             const unsigned long order[NUMBERS][NUMBERS])
+{
+    unsigned never = 0;
+
+    fprintf(out, "%s, refusal given before another fault:\n", what);
+    for (size_t i = 0; i < count; i++) {
+        unsigned given = pairs[i][0], other = pairs[i][1];
+        unsigned long met = order[given][other];
+
+        fprintf(out, "  %u<%u %lu%s", given, other, met,
+                i % 8 == 7 || i + 1 == count ? "\n" : "");
+        if (met == 0) {
+            fprintf(out, "\nnever met: %s %u before %u\n", what, given, other);
+            never++;
+        }
+    }
+    return never;
+}
+
+static void print_depth(FILE *out, const struct coverage *c)
+{
+    fprintf(out, "depth:\n");
+    fprintf(out, "  stores ended at S4 %lu, at S6 %lu\n", c->ended_at_s4, c->ended_at_s6);
+    fprintf(out, "  S6 walks past 3 busy nodes or more %lu, longest %lu\n",
+            c->long_walks, c->longest_walk);
+    fprintf(out, "  cursor back to node 0 %lu, in a pool of 128 %lu\n",
+            c->cursor_wraps, c->wraps_at_128);
+    fprintf(out, "  checks turned back %lu, inputs with 2 tasks or more turned back %lu\n",
+            c->turned_back, c->turned_two);
+    fprintf(out, "  checks passed on a node that had left and come back %lu\n", c->came_back);
+    fprintf(out, "  L2 on a free node %lu, stores lost to an equal value %lu\n",
+            c->raised_free, c->lost_equal);
+    fprintf(out, "  most tasks busy at once %lu\n", c->most_busy);
+}
+
+static unsigned print_lengths(FILE *out, const struct coverage *c)
+{
+    unsigned never = 0;
+
+    fprintf(out, "cut entries by length:");
+    for (unsigned i = 1; i < ENTRY_BYTES; i++)
+        fprintf(out, " %u:%lu", i, c->cut[i]);
+    fprintf(out, "\nsetups cut in the head by length:");
+    for (unsigned i = 0; i < SETUP_HEAD; i++)
+        fprintf(out, " %u:%lu", i, c->setup_cut[i]);
+    fprintf(out, ", in the values: %lu\n", c->setup_cut[SETUP_HEAD]);
+    fprintf(out, "schedules empty %lu, of exactly 65530 bytes %lu\n",
+            c->empty_schedules, c->full_schedules);
+
+    for (unsigned i = 1; i < ENTRY_BYTES; i++)
+        never += missing(out, c->cut[i], "cut entry of length", i);
+    for (unsigned i = 0; i <= SETUP_HEAD; i++)
+        never += missing(out, c->setup_cut[i], "cut setup of length", i);
+    return never;
+}
+
+unsigned coverage_print(FILE *out, const struct coverage *c)
+{
+    unsigned never = 0;
+
+    fprintf(out, "accepted entries by phase:\n");
+    for (unsigned i = 0; i < PHASES; i++) {
+        fprintf(out, "  phase %2u %-6s %9lu\n", i, phase_name(i), c->phase[i]);
+        never += missing(out, c->phase[i], "phase", i);
+    }
+    fprintf(out, "replies and refusals:\n");
+    for (unsigned i = 0; i < NUMBERS; i++) {
+        if (i > RELEASED && i < BAD_SIZES)
+            continue;
+        fprintf(out, "  %-7s %2u %11lu%s\n", is_refusal(i) ? "refusal" : "reply", i,
+                c->number[i], reachable(i) ? "" : "  (not through the program)");
+        if (reachable(i))
+            never += missing(out, c->number[i], is_refusal(i) ? "refusal" : "reply", i);
+    }
+    never += print_orders(out, "entries", ENTRY_ORDERS, COUNT_OF(ENTRY_ORDERS),
+                          c->entry_order);
+    never += print_orders(out, "setups", SETUP_ORDERS, COUNT_OF(SETUP_ORDERS),
+                          c->setup_order);
+    never += print_lengths(out, c);
+    print_depth(out, c);
+    return never;
+}

@@ -1,0 +1,143 @@
+/*
+ * The step bench of document 01, written a second time in plain C.
+ *
+ * Written from the documents alone, so that a slip in the proved library and
+ * a slip here are unlikely to be the same one.  No globals, no exit, nothing
+ * allocated: every function works on what it is handed.
+ */
+#ifndef BENCH_H
+#define BENCH_H
+
+#include <stdbool.h>
+#include <stddef.h>
+#include <stdint.h>
+#include <stdio.h>
+
+enum {
+    MAX_CELLS = 64,
+    MAX_TASKS = 16,
+    MAX_NODES = 128,
+
+    SETUP_HEAD = 6,   /* mark, N, P, K, zero */
+    VALUE_BYTES = 4,  /* one starting value in the setup */
+    ENTRY_BYTES = 10, /* mark, task, kind, cell, zero, value */
+    REPLY_BYTES = 8,  /* mark, number, task, value */
+
+    MAX_SETUP = SETUP_HEAD + VALUE_BYTES * MAX_CELLS,
+    MAX_SCHEDULE = 65530,
+    MAX_ENTRIES = MAX_SCHEDULE / ENTRY_BYTES,
+    /* One byte more than can be accepted: enough to see refusal 23. */
+    MAX_INPUT = MAX_SETUP + MAX_SCHEDULE + 1
+};
+
+enum phase {
+    IDLE = 0,
+    L1, L2, L3, L4, L5,
+    LINKED,
+    S1, S2, S3, S4, S5, S6, S7,
+    R1,
+    PHASES
+};
+
+enum kind { GO = 0, LOAD, STORE, RELEASE, KINDS };
+
+enum number {
+    /* replies */
+    MOVED = 0,
+    LOADED = 1,
+    TOOK = 2,
+    LOST = 3,
+    RELEASED = 4,
+    /* refusals */
+    BAD_SIZES = 11,
+    BAD_TASK = 12,
+    BAD_KIND = 13,
+    BAD_CELL = 14,
+    NOT_ZERO = 15,
+    BAD_CALL = 16,
+    BAD_GO = 17,
+    OTHER_CELL = 18,
+    BAD_MARK = 19,
+    CUT = 20,
+    NO_ROOM = 21,
+    DAMAGED = 22,
+    TOO_LONG = 23,
+    BAD_QUESTION = 24,
+    NUMBERS
+};
+
+/* One task record; the comments give document 01's names. */
+struct task {
+    uint8_t phase;
+    uint8_t cell;   /* x */
+    uint32_t value; /* Y */
+    uint8_t held;   /* m */
+    uint8_t own;
+    uint8_t cursor;
+};
+
+struct machine {
+    uint8_t cells;              /* N */
+    uint8_t tasks;              /* P */
+    uint8_t nodes;              /* K */
+    uint8_t node_of[MAX_CELLS]; /* the node each cell points at */
+    uint32_t value[MAX_NODES];
+    uint8_t count[MAX_NODES];
+    struct task task[MAX_TASKS];
+};
+
+struct answer {
+    uint8_t number; /* a reply or a refusal */
+    uint8_t task;
+    uint32_t value;
+    uint8_t met;    /* accepted entries: the phase the entry found its task in */
+};
+
+/* The six numbers of a run, in the order they are printed. */
+struct report {
+    uint32_t accepted;
+    uint32_t refusal;
+    uint32_t loads;
+    uint32_t load_steps;
+    uint32_t turned_back;
+    uint32_t swaps;
+};
+
+static inline bool is_refusal(unsigned number)
+{
+    return number >= BAD_SIZES;
+}
+
+/*
+ * Fills the machine from the setup at the start of the input.  Returns 0 and
+ * the setup's length in *used, or the refusal with the machine all zeros and
+ * *used 0.
+ */
+unsigned bench_setup(struct machine *machine, const uint8_t *input,
+                     size_t length, size_t *used);
+
+/*
+ * Applies the entry at the start of the left bytes.  A refusal leaves the
+ * machine as it was.
+ */
+struct answer bench_apply(struct machine *machine, const uint8_t *entry,
+                          size_t left);
+
+/*
+ * Runs a schedule up to its end or its first refused entry, one 8-byte reply
+ * an entry tried.  Reply bytes past the last one written are not touched.
+ */
+struct report bench_run(struct machine *machine, const uint8_t *schedule,
+                        size_t length, uint8_t *replies, size_t room);
+
+/*
+ * How many of the listed tasks hold the node.  Returns 0 and the count in
+ * *holders, or 24 and leaves *holders alone.
+ */
+unsigned bench_holders(const struct task *list, size_t length, unsigned node,
+                       unsigned *holders);
+
+/* Prints the program's whole text for an input. */
+void bench_print(FILE *out, const uint8_t *input, size_t length);
+
+#endif
