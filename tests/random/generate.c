@@ -420,15 +420,15 @@ static void wrong_time(struct maker *k, uint8_t *entry)
     uint8_t task = (uint8_t)below(d, k->sizes.tasks);
     const struct task *t = &k->guide.task[task];
     uint32_t value = pick_value(d, k->values);
-    unsigned pick = below(d, 7);
+    unsigned pick = below(d, 8);
 
-    if (pick < 2) { /* go with no call to go on with */
+    if (pick < 3) { /* go with no call to go on with */
         run_alone(k, task, chance(d, 50) ? IDLE : LINKED);
         make_entry(entry, task, GO, 0, 0);
-    } else if (pick < 4 && k->sizes.cells > 1) { /* store on the wrong cell */
+    } else if (pick < 5 && k->sizes.cells > 1) { /* store on the wrong cell */
         run_alone(k, task, LINKED);
         make_entry(entry, task, STORE, other_cell(k, t->cell), value);
-    } else if (pick < 5) { /* load in the middle of a call, or while linked */
+    } else if (pick < 6) { /* load in the middle of a call, or while linked */
         if (t->phase == IDLE)
             run_alone(k, task, LINKED);
         make_entry(entry, task, LOAD, pick_cell(k), 0);
@@ -500,6 +500,8 @@ static void put_refused(struct maker *k)
     }
     while (fields-- > 0)
         wrong_field(k, entry);
+    if (chance(&k->dice, 10)) /* the zero byte comes in the middle of the order */
+        entry[5] = not_zero(&k->dice);
     put(&k->tape, entry, sizeof entry);
 }
 
@@ -616,7 +618,7 @@ static void refused_setup(struct maker *k)
     play(k, below(d, 20));
 
     while (faults-- > 0) {
-        switch (below(d, 10)) {
+        switch (below(d, 11)) {
         case 0:
         case 1:
             if (t->length >= 2)
@@ -634,9 +636,11 @@ static void refused_setup(struct maker *k)
                 wrong_size(k, t->out);
             break;
         case 7: /* cut in the head */
-            t->length = below(d, SETUP_HEAD);
+        case 8:
+            if (t->length > SETUP_HEAD)
+                t->length = below(d, SETUP_HEAD);
             break;
-        case 8: /* cut in the values, the last byte more often */
+        case 9: /* cut in the values, the last byte more often */
             if (t->length >= whole)
                 t->length = chance(d, 30)
                     ? whole - 1
@@ -753,16 +757,16 @@ size_t generate(uint64_t seed, uint8_t *out, size_t cap)
 
     unsigned pick = below(&k.dice, 100);
 
-    if (pick < 45) {
+    if (pick < 43) {
         good_schedule(&k);
-    } else if (pick < 46) {
+    } else if (pick < 44) {
         climbing_schedule(&k);
-    } else if (pick < 76) {
+    } else if (pick < 74) {
         refused_schedule(&k);
-    } else if (pick < 81) {
+    } else if (pick < 79) {
         play(&k, pick_length(&k.dice));
         put_cut(&k);
-    } else if (pick < 85) {
+    } else if (pick < 83) {
         damaged_schedule(&k);
     } else if (pick < 95) {
         refused_setup(&k);

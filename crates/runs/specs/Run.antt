@@ -4,11 +4,11 @@ use mathlib.Core.Bool.{Bool, cond, not, _&&_}
 use mathlib.Core.List.{List, [], _∷_, _++_}
 use lib.Dec.{leb, ltb}
 use lib.ListN.{length, take, drop}
-use Rattle.wire.specs.Bytes.{replyMark, littleEndian}
+use Rattle.wire.specs.Bytes.{replyOf}
 use Rattle.answers.specs.Numbers.{refusalNumber, numberOf, valueOf}
 use Rattle.cells.specs.Machine.{inRange}
 use Rattle.cells.specs.Apply.{applyOf}
-use Rattle.runs.specs.Types.{Machine, Applied, NoRoom, Damaged, TooLong, Report, Ran}
+use Rattle.runs.specs.Types.{Machine, Applied, Refusal, NoRoom, Damaged, TooLong, Report, Ran}
 use Rattle.runs.specs.Counts.{accepted, anywhere, loadsAt, stepsAt, turnedAt, swapsAt}
 
 -- how many entries the bytes are, a cut one included
@@ -23,9 +23,9 @@ cut (suc n) s = take 10 s ∷ cut n (drop 10 s)
 abbrev pub entriesOf : List ℕ → List (List ℕ)
 entriesOf s = cut (entriesIn s) s
 
--- a reply's 8 bytes: the mark, number, task, value (4)
+-- an applied entry's reply
 abbrev pub replyBytes : Applied → List ℕ
-replyBytes a = replyMark ++ numberOf (a .answer) ∷ a .task ∷ littleEndian (valueOf (a .answer))
+replyBytes a = replyOf (numberOf (a .answer)) (a .task) (valueOf (a .answer))
 
 -- one reply an entry, up to the first refused one and its own
 unfoldable pub repliesFrom : Machine → List (List ℕ) → List ℕ
@@ -59,12 +59,16 @@ ranFrom m r (e ∷ es) =
     cond (accepted (applyOf m e .answer)) (ranFrom (applyOf m e .machine) (counted m e r) es)
     (record { machine = applyOf m e .machine; report = refusedAt (numberOf (applyOf m e .answer)) r })
 
+-- no entry is tried: the record as it was, and the refusal
+abbrev pub untriedOf : Machine → Refusal → Ran
+untriedOf m r = record { machine = m; report = reportOf (refusalNumber r) }
+
 -- a run on machine m of the bytes s, with room for `room` bytes of replies
 unfoldable pub ranOf : Machine → List ℕ → ℕ → Ran
 ranOf m s room =
-    cond (not (inRange m)) (record { machine = m; report = reportOf (refusalNumber Damaged) })  -- 22 (ranges)
-    (cond (ltb 65530 (length s)) (record { machine = m; report = reportOf (refusalNumber TooLong) })  -- 23
-    (cond (ltb room (8 * entriesIn s)) (record { machine = m; report = reportOf (refusalNumber NoRoom) })  -- 21
+    cond (not (inRange m)) (untriedOf m Damaged)               -- 22 (ranges)
+    (cond (ltb 65530 (length s)) (untriedOf m TooLong)         -- 23
+    (cond (ltb room (8 * entriesIn s)) (untriedOf m NoRoom)    -- 21
     (ranFrom m (reportOf 0) (entriesOf s))))
 
 -- the replies of that run: none where no entry was tried

@@ -1,6 +1,17 @@
-// A schedule from bytes.
+// A whole schedule from bytes over a machine record: one reply an entry, and the six numbers.
+use answers::Answer;
+use answers::Refusal;
 use cells::Machine;
+use tasks::TaskNo;
+ghost use mathlib.Core.Path.{_≡_};
+ghost use Prim.Native.Nat.{_+_, _*_, _≤_, min};
+ghost use lib.ListN.{length};
+ghost use Rattle.wire.specs.Bytes.{overlaid};
+ghost use Rattle.cells.specs.Apply.{applyOf};
+ghost use Rattle.runs.specs.Run.{entriesIn, entriesOf, replyBytes, repliesFrom, reportOf, ranFrom, untriedOf, ranOf, bufferOf};
+ghost use Rattle.runs.specs.Turn.{loadBegun, loadStep, wentOf, countedBy, Few, turnOf};
 
+// Entries accepted, the refusal or 0, loads begun, load steps, turned-back checks, swaps that took: all for one run.
 pub struct Report {
     pub accepted: u32,
     pub refusal: u8,
@@ -13,4 +24,177 @@ pub struct Report {
 pub struct Ran {
     pub machine: Machine,
     pub report: Report,
+}
+
+// Where a run stands after an entry.
+pub struct Turn {
+    pub machine: Machine,
+    pub report: Report,
+    pub stops: bool,
+}
+
+fn no_report(refusal: u8) -> Report
+    ensures { λ r. ⌜ r ≡ reportOf refusal ⌝ }
+{
+    Report {
+        accepted: 0,
+        refusal: refusal,
+        loads: 0,
+        load_steps: 0,
+        turned_back: 0,
+        swaps: 0,
+    }
+}
+
+// A go entry in phases 1 to 5.
+fn load_step(kind: u8, from: u8) -> u32
+    ensures { λ r. ⌜ r ≡ loadStep kind from ⌝ }
+{
+    if kind != 0 {
+        return 0;
+    }
+    if from < 1 {
+        return 0;
+    }
+    if from <= 5 { 1 } else { 0 }
+}
+
+// A go entry that goes from phase f to phase g.
+fn went(f: u8, g: u8, kind: u8, from: u8, to: u8) -> u32
+    ensures { λ r. ⌜ r ≡ wentOf f g kind from to ⌝ }
+{
+    if kind != 0 {
+        return 0;
+    }
+    if from != f {
+        return 0;
+    }
+    if to == g { 1 } else { 0 }
+}
+
+fn load_begun(kind: u8) -> u32
+    ensures { λ r. ⌜ r ≡ loadBegun kind ⌝ }
+{
+    if kind == 1 { 1 } else { 0 }
+}
+
+// One entry more was accepted: its kind, and its task's phase before and after it.
+fn counted(r: Report, kind: u8, from: u8, to: u8) -> Report
+    requires { ⌜ Few 6553 r ⌝ }
+    ensures { λ q. ⌜ q ≡ countedBy r kind from to ⌝ }
+{
+    let more = r.accepted + 1;
+    let loads = r.loads + load_begun(kind);
+    let steps = r.load_steps + load_step(kind, from);
+    let turned = r.turned_back + went(3, 5, kind, from, to);
+    let swaps = r.swaps + went(8, 9, kind, from, to);
+    Report {
+        accepted: more,
+        refusal: r.refusal,
+        loads: loads,
+        load_steps: steps,
+        turned_back: turned,
+        swaps: swaps,
+    }
+}
+
+// One entry of a run: its reply is written as the i-th, and it is counted or ends the run.
+fn take_turn(m: Machine, e: &[u8], out: &mut [u8], i: usize, r: Report) -> Turn
+    requires { ⌜ (8 * i + 8 ≤ length (now out)) × Few 6553 r ⌝ }
+    ensures { λ t. ⌜ (t ≡ turnOf m (now (e .entry)) r) × (now (out .exit) ≡ overlaid (now (out .entry)) (8 * i) (replyBytes (applyOf m (now (e .entry))))) ⌝ }
+{
+    let p = TaskNo(wire::byte_at(e, 2));
+    let kind = wire::byte_at(e, 3);
+    let old = m.task_at(p);
+    let a = m.apply(e);
+    let answer = a.answer;
+    let machine = a.machine;
+    let number = answers::number(answer);
+    wire::put_reply(out, 8 * i, number, a.task, answers::value(answer));
+    match answer {
+        Answer::Refused(_) => {
+            let mut last = r;
+            last.refusal = number;
+            Turn {
+                machine: machine,
+                report: last,
+                stops: true,
+            }
+        }
+        Answer::Replied(_) => {
+            let new = machine.task_at(p);
+            Turn {
+                machine: machine,
+                report: counted(r, kind, old.phase, new.phase),
+                stops: false,
+            }
+        }
+    }
+}
+
+// Where the entry that starts at `at` ends, in n bytes: a cut one ends with them.
+fn entry_end(at: usize, n: usize) -> usize
+    requires { ⌜ at ≤ n ⌝ }
+    ensures { λ r. ⌜ r ≡ min (at + 10) n ⌝ }
+{
+    if 10 <= n - at { at + 10 } else { n }
+}
+
+// The entries one after the other, up to the first refused one.
+fn run_entries(m: Machine, s: &[u8], out: &mut [u8]) -> Ran
+    requires { ⌜ (length (now s) ≤ 65530) × (8 * entriesIn (now s) ≤ length (now out)) ⌝ }
+    ensures { λ r. ⌜ (r ≡ ranFrom m (reportOf 0) (entriesOf (now (s .entry)))) × (now (out .exit) ≡ overlaid (now (out .entry)) 0 (repliesFrom m (entriesOf (now (s .entry))))) ⌝ }
+{
+    let n = s.len();
+    let count = (n + 9) / 10;
+    let mut machine = m;
+    let mut report = no_report(0);
+    let mut i: usize = 0;
+    while i < count {
+        let at = 10 * i;
+        let end = entry_end(at, n);
+        let t = take_turn(machine, &s[at..end], out, i, report);
+        let next = t.machine;
+        let counts = t.report;
+        if t.stops {
+            return Ran {
+                machine: next,
+                report: counts,
+            };
+        }
+        machine = next;
+        report = counts;
+        i += 1;
+    }
+    Ran {
+        machine: machine,
+        report: report,
+    }
+}
+
+fn untried(m: Machine, refusal: Refusal) -> Ran
+    ensures { λ r. ⌜ r ≡ untriedOf m refusal ⌝ }
+{
+    let number = answers::refusal_number(refusal);
+    Ran {
+        machine: m,
+        report: no_report(number),
+    }
+}
+
+// A run: 22 by ranges, 23 and 21 before any entry is tried, in that order.
+pub fn run(m: Machine, s: &[u8], out: &mut [u8]) -> Ran
+    ensures { λ r. ⌜ (r ≡ ranOf m (now (s .entry)) (length (now (out .entry)))) × (now (out .exit) ≡ bufferOf m (now (s .entry)) (now (out .entry))) ⌝ }
+{
+    if !m.in_range() {
+        return untried(m, Refusal::Damaged);
+    }
+    let n = s.len();
+    if 65530 < n {
+        return untried(m, Refusal::TooLong);
+    }
+    if out.len() < 8 * ((n + 9) / 10) {
+        return untried(m, Refusal::NoRoom);
+    }
+    run_entries(m, s, out)
 }

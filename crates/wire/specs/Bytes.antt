@@ -1,9 +1,9 @@
 -- Bytes as document 01 has them: each record starts with a two-byte mark, and numbers are little endian.
 use Prim.Native.Nat.{ℕ, _+_, _*_, _/_, _%_}
-use mathlib.Core.Bool.{Bool, _&&_}
-use mathlib.Core.List.{List, [], _∷_}
-use lib.Dec.{eqb}
-use lib.ListN.{getD}
+use mathlib.Core.Bool.{Bool, cond, _&&_}
+use mathlib.Core.List.{List, [], _∷_, _++_}
+use lib.Dec.{eqb, leb}
+use lib.ListN.{length, getD, take, drop}
 
 abbrev pub setupMark : List ℕ
 setupMark = 0x53 ∷ 0x55 ∷ []
@@ -29,3 +29,15 @@ wordAt s at = word (getD s at 0) (getD s (at + 1) 0) (getD s (at + 2) 0) (getD s
 -- a number below 2 ^ 32 in four bytes
 abbrev pub littleEndian : ℕ → List ℕ
 littleEndian y = y % 256 ∷ y / 256 % 256 ∷ y / 65536 % 256 ∷ y / 16777216 ∷ []
+
+-- a reply's 8 bytes: the mark, number, task, value (4)
+abbrev pub replyOf : ℕ → ℕ → ℕ → List ℕ
+replyOf n t y = replyMark ++ n ∷ t ∷ littleEndian y
+
+-- o with the bytes bs from place `at` on, and every other byte as it was
+abbrev pub overlaid : List ℕ → ℕ → List ℕ → List ℕ
+overlaid o at bs = take at o ++ bs ++ drop (at + length bs) o
+
+-- o with a reply from place `at` on, where there is room for it
+unfoldable pub withReply : List ℕ → ℕ → ℕ → ℕ → ℕ → List ℕ
+withReply o at n t y = cond (leb (at + 8) (length o)) (overlaid o at (replyOf n t y)) o

@@ -1,7 +1,7 @@
 // Bytes: marks, little-endian numbers, and the reply record.
 ghost use mathlib.Core.Path.{_≡_};
 ghost use lib.ListN.{getD};
-ghost use Rattle.wire.specs.Bytes.{word, wordAt, marked};
+ghost use Rattle.wire.specs.Bytes.{word, wordAt, marked, withReply};
 
 // The two bytes that each record starts with.
 pub const SETUP: [u8; 2] = [0x53, 0x55];
@@ -44,4 +44,26 @@ pub fn starts_with(s: &[u8], mark: [u8; 2]) -> bool
     let a = byte_at(s, 0);
     let b = byte_at(s, 1);
     if a == mark[0] { b == mark[1] } else { false }
+}
+
+// A reply record from place `at` on, where the buffer has room for its 8 bytes; else nothing is written.
+pub fn put_reply(out: &mut [u8], at: usize, number: u8, task: u8, value: u32)
+    ensures { λ _. ⌜ now (out .exit) ≡ withReply (now (out .entry)) at number task value ⌝ }
+{
+    let n = out.len();
+    if n < 8 {
+        return;
+    }
+    if n - 8 < at {
+        return;
+    }
+    let mark = REPLY;
+    out[at] = mark[0];
+    out[at + 1] = mark[1];
+    out[at + 2] = number;
+    out[at + 3] = task;
+    out[at + 4] = (value % 256) as u8;
+    out[at + 5] = (value / 256 % 256) as u8;
+    out[at + 6] = (value / 65536 % 256) as u8;
+    out[at + 7] = (value / 16777216) as u8;
 }

@@ -1,0 +1,107 @@
+-- A run that has taken i entries takes one more, stops or ends. Assumes nothing.
+use Prim.Native.Nat.{ℕ, _+_, _-_, _*_, _≤_, _<_, min}
+use mathlib.Core.Path.{_≡_, refl, sym, ap, _∙_, subst}
+use mathlib.Core.Bool.{Bool, true, false, cond, not}
+use mathlib.Core.List.{List, [], _∷_, _++_}
+use native.Mathlib.Decide.{decLe}
+use native.Mathlib.Nat.{zero-mul}
+use native.Mathlib.Omega.{arith}
+use lib.ListN.{length, take, drop, length-append, length-drop}
+use lib.Seq.{length-take-le, take-all}
+use borrow.Author.Tests.{not-true, not-false}
+use Rattle.answers.specs.Numbers.{numberOf}
+use Rattle.wire.specs.Bytes.{overlaid}
+use Rattle.cells.specs.Apply.{applyOf}
+use Rattle.runs.specs.Types.{Machine, Report, Ran, Turn}
+use Rattle.runs.specs.Counts.{accepted, kindOf, taskOf}
+use Rattle.runs.specs.Run.{entriesIn, entriesOf, cut, counted, reportOf, refusedAt, ranFrom, replyBytes, repliesFrom}
+use Rattle.runs.specs.Turn.{Few, Going, turnOf}
+use Rattle.runs.proofs.Laws.{counted-by, few-more, cut-next, cut-none, ran-on, ran-stops, ran-ends, replies-on, replies-stop, replies-end, over-none, over-more}
+
+-- the part of the bytes that a run hands on is the next entry
+pub piece : (s : List ℕ) (at : ℕ) → at ≤ length s → take (min (at + 10) (length s) - at) (drop at s) ≡ take 10 (drop at s)
+piece s at h =
+    elim (decLe (at + 10) (length s)) [
+      | yes l ↦ (let e : min (at + 10) (length s) - at ≡ 10 = omega arith in rw e)
+      | no l ↦ (let e : min (at + 10) (length s) - at ≡ length s - at = omega arith in
+      let d = length-drop at s in
+      rw e (take-all (length s - at) (drop at s) (omega arith) ∙ sym (take-all 10 (drop at s) (omega arith))))
+    ]
+
+-- bytes laid over leave the length
+pub over-length : (o : List ℕ) (at : ℕ) (b : List ℕ) → at + length b ≤ length o → length (overlaid o at b) ≡ length o
+over-length o at b h =
+    let d = length-drop (at + length b) o in
+    let t = length-take-le at o (omega arith) in
+    simp length-append (omega arith)
+
+module _ (s o₀ : List ℕ) (m₀ : Machine) where
+  pub starts : Going s o₀ m₀ o₀ m₀ (reportOf 0) 0
+  starts =
+      let none : entriesIn s - 0 ≡ entriesIn s = omega arith in
+      record {
+        taken = omega arith;
+        few = record { accepted = omega arith; loads = omega arith; load-steps = omega arith; turned-back = omega arith; swaps = omega arith };
+        long = refl;
+        ran = rw none;
+        replies = rw none;
+      }
+
+  module _ (o : List ℕ) (m : Machine) (r : Report) (i : ℕ) (g : Going s o₀ m₀ o m r i) where
+    pub ends : entriesIn s ≤ i → (record { machine = m; report = r } ≡ ranFrom m₀ (reportOf 0) (entriesOf s)) × (o ≡ overlaid o₀ 0 (repliesFrom m₀ (entriesOf s)))
+    ends h =
+        let all : i ≡ entriesIn s = omega (arith, g .taken) in
+        let none : cut (entriesIn s - i) (drop (10 * i) s) ≡ [] = ap (λ (k : ℕ). cut (entriesIn s - k) (drop (10 * i) s)) all ∙ cut-none (entriesIn s) (drop (10 * i) s) in
+        (sym (ran-ends m r) ∙ (rw none at (g .ran)), sym (over-none o (8 * i)) ∙ ap (overlaid o (8 * i)) (sym (replies-end m)) ∙ (rw none at (g .replies)))
+
+    module _ (more : i < entriesIn s) (room : 8 * entriesIn s ≤ length o₀) where
+      abbrev e : List ℕ
+      e = take 10 (drop (10 * i) s)
+
+      pub fits : 8 * i + 8 ≤ length o
+      fits = omega (arith, g .long)
+
+      next : cut (entriesIn s - i) (drop (10 * i) s) ≡ e ∷ cut (entriesIn s - (i + 1)) (drop (10 * (i + 1)) s)
+      next = cut-next (entriesIn s) i s more
+
+      pub stops : accepted (applyOf m e .answer) ≡ false
+          → (record { machine = applyOf m e .machine; report = refusedAt (numberOf (applyOf m e .answer)) r } ≡ ranFrom m₀ (reportOf 0) (entriesOf s))
+          × (overlaid o (8 * i) (replyBytes (applyOf m e)) ≡ overlaid o₀ 0 (repliesFrom m₀ (entriesOf s)))
+      stops h =
+          (sym (ran-stops m r e _ h) ∙ (rw next at (g .ran)), ap (overlaid o (8 * i)) (sym (replies-stop m r e _ h)) ∙ (rw next at (g .replies)))
+
+      pub goes-on : accepted (applyOf m e .answer) ≡ true → Going s o₀ m₀ (overlaid o (8 * i) (replyBytes (applyOf m e))) (applyOf m e .machine) (counted m e r) (i + 1)
+      goes-on h =
+          let at : 8 * i + 8 ≡ 8 * (i + 1) = omega arith in
+          record {
+            taken = omega arith;
+            few = rw (counted-by m e r h) (few-more i r (kindOf e) (taskOf m e .phase) (taskOf (applyOf m e .machine) e .phase) (g .few));
+            long = over-length o (8 * i) (replyBytes (applyOf m e)) fits ∙ g .long;
+            ran = sym (ran-on m r e _ h) ∙ (rw next at (g .ran));
+            replies = ap (λ (k : ℕ). overlaid (overlaid o (8 * i) (replyBytes (applyOf m e))) k (repliesFrom (applyOf m e .machine) (cut (entriesIn s - (i + 1)) (drop (10 * (i + 1)) s)))) (sym at)
+                ∙ over-more o (8 * i) (replyBytes (applyOf m e)) _ fits ∙ ap (overlaid o (8 * i)) (sym (replies-on m r e _ h)) ∙ (rw next at (g .replies));
+          }
+
+      -- the same of what `take_turn` hands back, for the part x of the bytes that is the next entry
+      module _ (x : List ℕ) (t : Turn) (o′ : List ℕ) (q : x ≡ e) (turned : t ≡ turnOf m x r) (wrote : o′ ≡ overlaid o (8 * i) (replyBytes (applyOf m x))) where
+        stopped : t .stops ≡ not (accepted (applyOf m e .answer))
+        unfolding turnOf
+        stopped = ap (λ (y : Turn). y .stops) turned ∙ ap (λ (y : List ℕ). not (accepted (applyOf m y .answer))) q
+
+        pub turn-stops : t .stops ≡ true → (record { machine = t .machine; report = t .report } ≡ ranFrom m₀ (reportOf 0) (entriesOf s)) × (o′ ≡ overlaid o₀ 0 (repliesFrom m₀ (entriesOf s)))
+        unfolding turnOf
+        turn-stops h =
+            let refused = not-true (accepted (applyOf m e .answer)) (sym stopped ∙ h) in
+            (rw (turned, q, refused) (stops refused .0), rw (wrote, q) (stops refused .1))
+
+        pub turn-goes-on : t .stops ≡ false → Going s o₀ m₀ o′ (t .machine) (t .report) (i + 1)
+        unfolding turnOf
+        turn-goes-on h =
+            let taken = not-false (accepted (applyOf m e .answer)) (sym stopped ∙ h) in
+            let t≡ : t ≡ turnOf m e r = turned ∙ ap (λ (y : List ℕ). turnOf m y r) q in
+            let report : t .report ≡ counted m e r =
+              ap (λ (y : Turn). y .report) t≡ ∙ ap (λ (b : Bool). cond b (counted m e r) (refusedAt (numberOf (applyOf m e .answer)) r)) taken in
+            let wrote-e = wrote ∙ ap (λ (y : List ℕ). overlaid o (8 * i) (replyBytes (applyOf m y))) q in
+            subst (λ (y : List ℕ). Going s o₀ m₀ y (t .machine) (t .report) (i + 1)) (sym wrote-e)
+            (subst (λ (k : Machine). Going s o₀ m₀ (overlaid o (8 * i) (replyBytes (applyOf m e))) k (t .report) (i + 1)) (sym (ap (λ (y : Turn). y .machine) t≡))
+            (subst (λ (k : Report). Going s o₀ m₀ (overlaid o (8 * i) (replyBytes (applyOf m e))) (applyOf m e .machine) k (i + 1)) (sym report) (goes-on taken)))

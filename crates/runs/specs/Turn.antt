@@ -1,0 +1,60 @@
+-- One entry of a run, as the private functions say it: what it counts for by its kind and its task's phase before (f) and after (f′).
+use Prim.Native.Nat.{ℕ, _+_, _-_, _*_, _≤_}
+use mathlib.Core.Path.{_≡_}
+use mathlib.Core.Bool.{Bool, cond, not, _&&_}
+use mathlib.Core.List.{List}
+use lib.Dec.{eqb}
+use Rattle.tallies.specs.Lists.{within}
+use Rattle.tallies.specs.Tally.{bit}
+use Rattle.answers.specs.Numbers.{numberOf}
+use Rattle.cells.specs.Apply.{applyOf}
+use Rattle.runs.specs.Types.{Machine, Report, Turn}
+use Rattle.runs.specs.Counts.{accepted}
+use Rattle.runs.specs.Run.{entriesIn, entriesOf, cut, counted, reportOf, refusedAt, ranFrom, repliesFrom}
+use Rattle.wire.specs.Bytes.{overlaid}
+use lib.ListN.{length, drop}
+
+abbrev pub loadBegun : ℕ → ℕ
+loadBegun kind = bit (eqb kind 1)
+
+unfoldable pub loadStep : ℕ → ℕ → ℕ
+loadStep kind f = bit (eqb kind 0 && within 1 5 f)
+
+-- a go that goes from phase a to phase b
+unfoldable pub wentOf : ℕ → ℕ → ℕ → ℕ → ℕ → ℕ
+wentOf a b kind f f′ = bit (eqb kind 0 && eqb f a && eqb f′ b)
+
+unfoldable pub countedBy : Report → ℕ → ℕ → ℕ → Report
+countedBy r kind f f′ =
+    record {
+      accepted = r .accepted + 1;
+      refusal = r .refusal;
+      loads = r .loads + loadBegun kind;
+      «load_steps» = r .«load_steps» + loadStep kind f;
+      «turned_back» = r .«turned_back» + wentOf 3 5 kind f f′;
+      swaps = r .swaps + wentOf 8 9 kind f f′;
+    }
+
+-- no number of the report is above k
+pub record Few (k : ℕ) (r : Report) : Type 0 where
+  pub accepted : r .accepted ≤ k
+  pub loads : r .loads ≤ k
+  pub load-steps : r .«load_steps» ≤ k
+  pub turned-back : r .«turned_back» ≤ k
+  pub swaps : r .swaps ≤ k
+
+unfoldable pub turnOf : Machine → List ℕ → Report → Turn
+turnOf m e r =
+    record {
+      machine = applyOf m e .machine;
+      report = cond (accepted (applyOf m e .answer)) (counted m e r) (refusedAt (numberOf (applyOf m e .answer)) r);
+      stops = not (accepted (applyOf m e .answer));
+    }
+
+-- a run on the bytes s from machine m₀ and buffer o₀ has taken i entries: what is left of it gives the whole
+pub record Going (s o₀ : List ℕ) (m₀ : Machine) (o : List ℕ) (m : Machine) (r : Report) (i : ℕ) : Type 0 where
+  pub taken : i ≤ entriesIn s
+  pub few : Few i r
+  pub long : length o ≡ length o₀
+  pub ran : ranFrom m r (cut (entriesIn s - i) (drop (10 * i) s)) ≡ ranFrom m₀ (reportOf 0) (entriesOf s)
+  pub replies : overlaid o (8 * i) (repliesFrom m (cut (entriesIn s - i) (drop (10 * i) s))) ≡ overlaid o₀ 0 (repliesFrom m₀ (entriesOf s))
