@@ -2,7 +2,6 @@
 -- when it acted: any other history is not legal.
 use Prim.Native.Nat.{ℕ}
 use mathlib.Core.Path.{_≡_}
-use mathlib.Core.Bool.{false}
 use mathlib.Core.List.{List, [], _∷_}
 use Rattle.figure1.specs.Figure1.{put, Cells, Call, Result, figure1, nobody}
 

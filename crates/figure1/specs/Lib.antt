@@ -1,3 +1,4 @@
 pub mod Figure1
 pub mod Histories
+pub mod Counts
 pub mod Engine

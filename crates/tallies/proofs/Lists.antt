@@ -1,12 +1,13 @@
--- Laws of `every` and `fillTo`, one turn of a loop at a time. Assumes nothing.
+-- Laws of `every`, `fillTo` and `within`, some of them one turn of a loop at a time. Assumes nothing.
 use Prim.Native.Nat.{ℕ, zero, suc, _+_, _<_, _≤_}
-use mathlib.Core.Path.{_≡_, refl}
-use mathlib.Core.Bool.{Bool, true, false, cond, false≢true, _&&_}
+use mathlib.Core.Path.{_≡_, refl, _∙_}
+use mathlib.Core.Bool.{Bool, true, false, cond, _&&_, false≢true}
 use mathlib.Core.List.{List}
-use lib.ListN.{set}
+use lib.ListN.{length, getD, set, length-set}
+use lib.Seq.{getD-set-same, getD-set-other}
 use native.Mathlib.Numerals.{add-one}
 use native.Mathlib.Omega.{arith}
-use native.Mathlib.Decide.{decLe, decLt}
+use native.Mathlib.Decide.{decLe, decLt, ℕ-discrete}
 use borrow.Author.Tests.{le-leb, lt-leb, leb-true}
 use Rattle.tallies.specs.Lists.{within, every, fillTo}
 
@@ -44,3 +45,28 @@ within-true a b n l r = rw (le-leb a n l, le-leb n b r)
 pub both : (a b : Bool) → (a && b) ≡ true → (a ≡ true) × (b ≡ true)
 both true b h = (refl, h)
 both false b h = absurd (false≢true h)
+
+-- what stands where, and how much, after the filling
+pub fill-length {ℓ} : {A : Type ℓ} (f : ℕ → A) (n : ℕ) (l : List A) → length (fillTo f n l) ≡ length l
+unfolding fillTo
+fill-length f zero l = refl
+fill-length f (suc n) l = length-set (fillTo f n l) n (f n) ∙ fill-length f n l
+
+pub fill-past {ℓ} : {A : Type ℓ} (f : ℕ → A) (n : ℕ) (l : List A) (i : ℕ) (d : A) → n ≤ i → getD (fillTo f n l) i d ≡ getD l i d
+unfolding fillTo
+fill-past f zero l i d h = refl
+fill-past f (suc n) l i d h = getD-set-other (fillTo f n l) n i (f n) d (omega arith) ∙ fill-past f n l i d (omega arith)
+
+pub fill-at {ℓ} : {A : Type ℓ} (f : ℕ → A) (n : ℕ) (l : List A) (i : ℕ) (d : A) → i < n → n ≤ length l → getD (fillTo f n l) i d ≡ f i
+unfolding fillTo
+fill-at f zero l i d h k = absurd (omega arith)
+fill-at f (suc n) l i d h k =
+    elim (ℕ-discrete i n) [
+      | yes e ↦ rw e (getD-set-same (fillTo f n l) n (f n) d (omega (arith, fill-length f n l)))
+      | no ne ↦ getD-set-other (fillTo f n l) n i (f n) d ne ∙ fill-at f n l i d (omega arith) (omega arith)
+    ]
+
+pub every-true : (f : ℕ → Bool) (n : ℕ) → ((i : ℕ) → i < n → f i ≡ true) → every f n ≡ true
+unfolding every
+every-true f zero h = refl
+every-true f (suc n) h = rw (h n (omega arith)) (every-true f n (λ i l. h i (omega arith)))

@@ -7,12 +7,14 @@ use mathlib.Core.Logic.{_≢_}
 use native.Mathlib.Nat.{le-of-suc-le-suc, not-suc-le-zero, add-zero, add-suc, mod-eq-of-lt, add-mod-right}
 use native.Mathlib.Numerals.{add-one}
 use native.Mathlib.Omega.{arith}
-use native.Mathlib.Decide.{ℕ-discrete}
-use lib.ListN.{length, getD, set}
+use native.Mathlib.Decide.{decLt, ℕ-discrete}
+use lib.ListN.{length, getD, set, length-set}
 use lib.Dec.{T, eqb, ltb}
 use lib.Seq.{getD-set-same, getD-set-other}
-use borrow.Author.Tests.{lt-ltb, eq-eqb, ne-eqb}
+use borrow.Author.Tests.{lt-ltb, le-ltb, eq-eqb, ne-eqb}
+use Rattle.tallies.specs.Lists.{fillTo}
 use Rattle.tallies.specs.Tally.{bit, tally, total}
+use Rattle.tallies.proofs.Lists.{fill-length}
 
 module _ {A : Type 0} where
   -- one place changes: the sum changes by that place's weight
@@ -238,3 +240,31 @@ total-gap h (suc n) l =
       | yes q ↦ (n, omega arith, q)
       | no q ↦ let r = total-gap h n (omega (arith, ap bit (lt-ltb 0 (h n) (omega arith)))) in (r .0, omega (arith, r .1), r .2)
     ]
+
+-- the sum over the places that were filled
+pub tally-fill : {A : Type 0} (w : A → ℕ) (f : ℕ → A) (n : ℕ) (l : List A) → n ≤ length l → tally w n (fillTo f n l) ≡ total (λ i. w (f i)) n
+unfolding tally total fillTo
+tally-fill w f zero l h = refl
+tally-fill w f (suc n) l h =
+    let put = set (fillTo f n l) n (f n) in
+    let long : n < length (fillTo f n l) = omega (arith, fill-length f n l) in
+    ap (λ (k : ℕ). tally w k put) (sym (add-one n)) ∙ tally-next w n put (f n) (omega (arith, length-set (fillTo f n l) n (f n)))
+    ∙ ap₂ _+_ (tally-out w n (fillTo f n l) n (f n) (omega arith) ∙ tally-fill w f n l (omega arith)) (ap w (getD-set-same (fillTo f n l) n (f n) (f n) long)) ∙ omega arith
+
+-- i is one of the numbers below n, or none of them
+pub total-at : (i n : ℕ) → total (λ j. bit (eqb j i)) n ≡ bit (ltb i n)
+unfolding total
+total-at i zero = rw (le-ltb i 0 zero-le)
+total-at i (suc n) =
+    elim (ℕ-discrete n i) [
+      | yes e ↦ rw (eq-eqb n i e, total-at i n, le-ltb i n (omega arith), lt-ltb i (suc n) (omega arith))
+      | no ne ↦ rw (ne-eqb n i ne, total-at i n, rest ne) (omega arith)
+    ]
+  where
+    rest : n ≢ i → ltb i (suc n) ≡ ltb i n
+    rest ne = elim (decLt i n) [ yes h ↦ rw (lt-ltb i n h, lt-ltb i (suc n) (omega arith)) | no h ↦ rw (le-ltb i n (omega arith), le-ltb i (suc n) (omega arith)) ]
+
+pub total-zero : (n : ℕ) → total (λ i. 0) n ≡ 0
+unfolding total
+total-zero zero = refl
+total-zero (suc n) = omega (arith, total-zero n)

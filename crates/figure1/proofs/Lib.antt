@@ -1,0 +1,4 @@
+pub mod Put
+pub mod Sets
+pub mod Lift
+pub mod Once

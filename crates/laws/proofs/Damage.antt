@@ -1,0 +1,144 @@
+-- Refusal 22 is never met by a record that is `Kept`: not by its ranges, not by a step, not in a run. Assumes nothing.
+use Prim.Native.Nat.{ℕ, _+_, _-_, _*_, _≤_, _<_}
+use native.Mathlib.Omega.{arith}
+use mathlib.Core.Path.{_≡_, refl, sym, _∙_}
+use mathlib.Core.Bool.{true, _||_, false≢true}
+use mathlib.Core.List.{List, [], _∷_}
+use mathlib.Core.Logic.{_≢_}
+use lib.Dec.{T, eqb}
+use lib.ListN.{getD}
+use borrow.Author.Tests.{lt-ltb, le-ltb, le-leb, ne-eqb}
+use Rattle.tallies.proofs.Lists.{within-true, every-true}
+use Rattle.answers.specs.Numbers.{numberOf}
+use Rattle.answers.specs.declared.Answer.{Answer}
+use Rattle.answers.specs.declared.Answer.the-variants.{Replied, Refused}
+use Rattle.answers.specs.declared.Reply.{Reply}
+use Rattle.answers.specs.declared.Reply.the-variants.{Moved, Loaded, Took, Lost, Released}
+use Rattle.answers.specs.declared.Refusal.the-variants.{Sizes, NoTask, NoKind, NoCell, NotZero, NotNow, NoStep, OtherCell, WrongMark, TooShort, NoRoom, Damaged, TooLong}
+use Rattle.tasks.specs.declared.Task.{Task}
+use Rattle.tasks.specs.Records.{onward, probing, taskOk}
+use Rattle.tasks.specs.Phases.{holds}
+use Rattle.steps.specs.declared.Effect.{Effect}
+use Rattle.steps.specs.declared.Effect.the-variants.{Does, Refuses}
+use Rattle.steps.specs.Table.{after, raisedOf, loweredOf, counting, rows, beyond, effectOf}
+use Rattle.tables.specs.Tables.{sizesOk, cellOk, countOk, taskOkIn}
+use Rattle.cells.specs.declared.Machine.{Machine}
+use Rattle.cells.specs.Machine.{seenOf, inRange}
+use Rattle.cells.specs.Apply.{applyOf}
+use Rattle.runs.specs.declared.Report.{Report}
+use Rattle.runs.specs.declared.Ran.{Ran}
+use Rattle.runs.specs.Counts.{accepted}
+use Rattle.runs.specs.Run.{entriesOf, reportOf, counted, ranFrom, ranOf}
+use Rattle.laws.specs.Meaning.{Kept}
+use Rattle.laws.proofs.Phases.{by-phase, by-test}
+use Rattle.laws.proofs.Entries.{Damage, by-range, by-step, by-entry}
+use Rattle.laws.proofs.Keeps.{task}
+use Rattle.laws.proofs.Table.{entry-keeps}
+use Rattle.laws.proofs.Room.{count-most, can-lower, can-raise}
+use Rattle.laws.proofs.Runs.{Run, damaged, too-long, no-room, tries, run}
+
+module _ (m : Machine) (K : Kept m) where
+  -- every test of the ranges passes
+  task-ok : (q : ℕ) → q < m .p → taskOkIn (m .tasks) (m .n) (m .k) q ≡ true
+  unfolding taskOk
+  task-ok q h =
+      let r = K .sound .each q h in
+      rw (le-leb _ _ (r .phase), lt-ltb _ _ (r .cell), lt-ltb _ _ (r .held), lt-ltb _ _ (r .own), lt-ltb _ _ (r .cursor))
+
+  pub in-range : inRange m ≡ true
+  unfolding inRange sizesOk
+  in-range =
+      let k = K .sound in
+      rw (
+        within-true 1 64 (m .n) (k .a-cell) (k .cells),
+        within-true 1 16 (m .p) (k .a-task) (k .tasks),
+        le-leb (m .n + 2 * m .p) (m .k) (k .room),
+        le-leb (m .k) 128 (k .nodes),
+        every-true (cellOk (m .cells) (m .k)) (m .n) (λ x h. lt-ltb _ _ (k .pointed x h)),
+        every-true (countOk (m .counts) (m .p)) (m .k) (λ i h. le-leb _ _ (count-most m K i h)),
+        every-true (taskOkIn (m .tasks) (m .n) (m .k)) (m .p) task-ok,
+      )
+
+  -- a step is made, or the task is idle or linked
+  abbrev pub Steady : ℕ → Effect → Type 0
+  Steady f (Does d) = Unit {0}
+  Steady f (Refuses r) = (r ≡ NoStep) × T (eqb f 0 || eqb f 6)
+
+  module _ (q : ℕ) (hq : q < m .p) where
+    abbrev t : Task
+    t = task m q
+
+    lowers-well : (f : ℕ) (t′ : Task) (r : Reply) → t .phase ≡ f → T (holds f) → Steady f (counting (loweredOf (t .held) (getD (m .counts) (t .held .0) 0)) t′ r)
+    unfolding loweredOf
+    lowers-well f t′ r w h = rw (ne-eqb (getD (m .counts) (t .held .0) 0) 0 (omega (arith, can-lower m K q hq (rw w h)))) tt
+
+    raises-well : (t′ : Task) (r : Reply) → t .phase ≡ 2 → Steady 2 (counting (raisedOf (m .p) (t .held) (getD (m .counts) (t .held .0) 0)) t′ r)
+    unfolding raisedOf
+    raises-well t′ r w =
+        let c = getD (m .counts) (t .held .0) 0 in
+        let h : c ≤ m .p = can-raise m K q (t .held .0) hq (K .sound .each q hq .held) w in
+        rw (le-ltb (m .p) c h, ne-eqb c 255 (omega (arith, K .sound .tasks))) tt
+
+    pub steady : Steady (t .phase) (effectOf t (seenOf m t))
+    unfolding effectOf rows
+    steady = by-phase (λ f. t .phase ≡ f → Steady f (getD rows f beyond t (seenOf m t)))
+        (λ w. (refl, tt)) (λ w. tt) (raises-well (onward t 3) Moved) (λ w. by-test (Steady 3) (eqb (t .held .0) (getD (m .cells) (t .cell .0) 0)) _ _ (λ y. tt) (λ y. tt))
+        (λ w. tt) (λ w. lowers-well 5 (onward t 1) Moved w tt) (λ w. (refl, tt)) (λ w. tt)
+        (λ w. by-test (Steady 8) (eqb (t .held .0) (getD (m .cells) (t .cell .0) 0)) _ _ (λ y. tt) (λ y. tt)) (λ w. lowers-well 9 (onward t 10) Moved w tt)
+        (λ w. by-test (Steady 10) (eqb (getD (m .counts) (t .held .0) 0) 1) _ _ (λ y. tt) (λ y. tt))
+        (λ w. lowers-well 11 (onward (probing t (after (m .k) (t .held))) 12) Moved w tt)
+        (λ w. by-test (Steady 12) (eqb (getD (m .counts) (t .cursor .0) 0) 0) _ _ (λ y. tt) (λ y. tt))
+        (λ w. lowers-well 13 (onward t 0) Lost w tt) (λ w. lowers-well 14 (onward t 0) Released w tt)
+        (t .phase) (K .sound .each q hq .phase) refl
+
+  -- no entry is answered with 22, neither by the ranges nor by the step
+  pub entry-undamaged : (e : List ℕ) → applyOf m e .answer ≢ Refused Damaged
+  entry-undamaged e = by-entry m e (λ a. a .answer ≢ Refused Damaged) (λ i r w q. neither (w (cc)))
+      (λ a h. clash Moved) (λ a h. clash Moved) (λ a. clash Moved) (λ d s. clash (d .reply))
+    where
+      clash : (r : Reply) → Replied r ≢ Refused Damaged
+      clash r q = let z : _≡_ {A = ℕ} 0 1 = cc in omega arith
+
+      neither : Damage m e → ⊥
+      neither (by-range q) = false≢true (sym q ∙ in-range)
+      neither (by-step h q) =
+          let w : Damaged ≡ NoStep = rw q at (steady (getD e 2 0) h) .0 in
+          let z : _≡_ {A = ℕ} 0 1 = cc in omega arith
+
+-- 22 is the number of one refusal alone, and of no reply
+number-22 : (a : Answer) → a ≢ Refused Damaged → numberOf a ≢ 22
+number-22 (Replied Moved) ne = omega arith
+number-22 (Replied (Loaded v)) ne = omega arith
+number-22 (Replied Took) ne = omega arith
+number-22 (Replied Lost) ne = omega arith
+number-22 (Replied Released) ne = omega arith
+number-22 (Refused Sizes) ne = omega arith
+number-22 (Refused NoTask) ne = omega arith
+number-22 (Refused NoKind) ne = omega arith
+number-22 (Refused NoCell) ne = omega arith
+number-22 (Refused NotZero) ne = omega arith
+number-22 (Refused NotNow) ne = omega arith
+number-22 (Refused NoStep) ne = omega arith
+number-22 (Refused OtherCell) ne = omega arith
+number-22 (Refused WrongMark) ne = omega arith
+number-22 (Refused TooShort) ne = omega arith
+number-22 (Refused NoRoom) ne = omega arith
+number-22 (Refused Damaged) ne = λ q. ne refl
+number-22 (Refused TooLong) ne = omega arith
+
+entries-undamaged : (es : List (List ℕ)) (m : Machine) (r : Report) → Kept m → r .refusal ≢ 22 → ranFrom m r es .report .refusal ≢ 22
+unfolding ranFrom
+entries-undamaged [] m r K ne = ne
+entries-undamaged (e ∷ es) m r K ne =
+    by-test (λ (a : Ran). a .report .refusal ≢ 22) (accepted (applyOf m e .answer)) _ _
+    (λ q. entries-undamaged es (applyOf m e .machine) (counted m e r) (entry-keeps m e K) ne) (λ q. number-22 (applyOf m e .answer) (entry-undamaged m K e))
+
+-- no run reports 22
+pub run-undamaged : (m : Machine) (s : List ℕ) (room : ℕ) → Kept m → ranOf m s room .report .refusal ≢ 22
+run-undamaged m s room K = go (run m s room)
+  where
+    go : {a : Ran} {l : List ℕ} → Run m s room a l → a .report .refusal ≢ 22
+    go (damaged q) = absurd (false≢true (sym q ∙ in-range m K))
+    go (too-long q h) = omega arith
+    go (no-room q h k) = omega arith
+    go (tries q h k) = entries-undamaged (entriesOf s) m (reportOf 0) K (omega arith)

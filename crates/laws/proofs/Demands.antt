@@ -1,0 +1,131 @@
+-- What is proved, demand by demand of document 00: full statements, each proved in the file that its line cites. Nothing is assumed: a theorem
+-- takes any record and any bytes, or a setup that is accepted, or a record reached from one.
+use Prim.Native.Nat.{ℕ, _+_, _*_, _≤_, _<_}
+use mathlib.Core.Path.{_≡_, refl}
+use mathlib.Core.Bool.{true, false}
+use mathlib.Core.List.{List, [], _∷_, _++_}
+use mathlib.Core.Logic.{_≢_}
+use lib.ListN.{length, getD, take, drop}
+use Rattle.answers.specs.declared.Answer.the-variants.{Refused}
+use Rattle.answers.specs.declared.Refusal.{Refusal}
+use Rattle.answers.specs.declared.Refusal.the-variants.{NoRoom, Damaged, TooLong}
+use Rattle.steps.specs.declared.Deed.{Deed}
+use Rattle.tables.specs.Tables.{valueGiven}
+use Rattle.cells.specs.declared.Machine.{Machine}
+use Rattle.cells.specs.declared.SetupAnswer.the-variants.{Ready, Refused as NotSetUp}
+use Rattle.cells.specs.Machine.{seenOf, inRange}
+use Rattle.cells.specs.Apply.{applyOf}
+use Rattle.cells.specs.Setup.{blankOf, setupOf}
+use Rattle.runs.specs.Counts.{taskOf}
+use Rattle.runs.specs.Run.{entriesIn, entriesOf, replyBytes, repliesOf, untriedOf, ranOf, bufferOf}
+use Rattle.figure1.specs.Figure1.{Call, Result}
+use Rattle.figure1.specs.Histories.{State, Event, begins, ends, after, afterAll, Follows, start}
+use Rattle.figure1.specs.Counts.{beginsBy, actsBy, endsBy, number}
+use Rattle.figure1.specs.Engine.{history}
+use Rattle.figure1.proofs.Lift.{follows-split}
+use Rattle.figure1.proofs.Once.{Acted, Called, finished, unfinished, in-order, cells-stay}
+use Rattle.laws.specs.Acts.{Matches, finishes, eventsOf}
+use Rattle.laws.specs.Schedules.{applied, tried, Reached}
+use Rattle.laws.proofs.Entries.{Outcome, outcome, Steps, refused-leaves}
+use Rattle.laws.proofs.Rows.{Moves, moves}
+use Rattle.laws.proofs.Start.{setup-kept, setup-blank}
+use Rattle.laws.proofs.Runs.{run-damaged, run-long, run-no-room, run-tries, buffer-length, buffer-past}
+use Rattle.laws.proofs.Reached.{schedule-keeps, reached-kept, Scheduled, scheduled}
+use Rattle.laws.proofs.Damage.{in-range, entry-undamaged, run-undamaged}
+use Rattle.laws.proofs.Engine.{pool, follows, matches, answered, before, entry, replies-follow}
+
+-- DEMAND 1. Whatever is handed over is answered or refused with a number, and a refusal changes nothing beyond what its answer takes up.
+-- (That each function returns what these definitions give, for every input, is its own contract.)
+
+-- a refused entry leaves the machine: any record, any bytes (Entries)
+pub refused-entry : (m : Machine) (e : List ℕ) (r : Refusal) → applyOf m e .answer ≡ Refused r → applyOf m e .machine ≡ m
+refused-entry m e r q = refused-leaves m e (rw q refl)
+
+-- a refused setup gives a record of all zeros (Start)
+pub refused-setup : (s : List ℕ) (r : Refusal) → setupOf s .answer ≡ NotSetUp r → setupOf s .machine ≡ blankOf
+refused-setup = setup-blank
+
+-- a run leaves the reply buffer's length and every byte after its last reply (Runs)
+pub buffer-kept : (m : Machine) (s out : List ℕ)
+    → (length (bufferOf m s out) ≡ length out) × ((i : ℕ) → length (repliesOf m s (length out)) ≤ i → getD (bufferOf m s out) i 0 ≡ getD out i 0)
+buffer-kept m s out = (buffer-length m s out, buffer-past m s out)
+
+-- 22 by the ranges, 23 and 21 leave the record and the whole buffer, and report the number and five zeros (Runs)
+pub refused-run : (m : Machine) (s out : List ℕ)
+    → (inRange m ≡ false → (ranOf m s (length out) ≡ untriedOf m Damaged) × (bufferOf m s out ≡ out))
+    × (inRange m ≡ true → 65530 < length s → (ranOf m s (length out) ≡ untriedOf m TooLong) × (bufferOf m s out ≡ out))
+    × (inRange m ≡ true → length s ≤ 65530 → length out < 8 * entriesIn s → (ranOf m s (length out) ≡ untriedOf m NoRoom) × (bufferOf m s out ≡ out))
+refused-run m s out = (run-damaged m s out, run-long m s out, run-no-room m s out)
+
+-- no record reached from an accepted setup meets 22: not by its ranges, not by a step, not in a run (Damage)
+pub never-damaged : {m : Machine} → Reached m
+    → (inRange m ≡ true) × ((e : List ℕ) → applyOf m e .answer ≢ Refused Damaged) × ((s : List ℕ) (room : ℕ) → ranOf m s room .report .refusal ≢ 22)
+never-damaged {m} r = (in-range m (reached-kept r), entry-undamaged m (reached-kept r), λ s room. run-undamaged m s room (reached-kept r))
+
+-- DEMAND 2. An accepted entry does the step of document 01's table and nothing else; and over every schedule from an accepted setup the cells'
+-- values and what finished calls gave are figure 1's, each call acting where the demand says (`actsFrom` in laws/specs/Acts).
+
+-- an entry is refused, begins a call, or makes a step (Entries), and the step is its phase's row of the table (Rows)
+pub entry-does : (m : Machine) (e : List ℕ) → Outcome m e (applyOf m e)
+entry-does = outcome
+
+pub step-does : (m : Machine) (e : List ℕ) (d : Deed) → Steps m e d → Moves (taskOf m e) (seenOf m (taskOf m e)) (taskOf m e .phase) d
+step-does m e d s = moves (taskOf m e) (seenOf m (taskOf m e)) d (s .does)
+
+module _ (s : List ℕ) (used : ℕ) (ok : setupOf s .answer ≡ Ready used) (es : List (List ℕ)) where
+  -- figure 1 with the setup's values, and the schedule's history
+  abbrev pub first : State
+  first = start (valueGiven s)
+
+  abbrev pub past : List Event
+  past = history pool (setupOf s .machine) es
+
+  -- the history is legal, and the record is in the state that figure 1 is in after it: values, sets, and where each call stands (Engine)
+  pub figure1-holds : Follows first past × Matches (applied (setupOf s .machine) es) (afterAll first past)
+  figure1-holds = (follows s used ok es, matches s used ok es)
+
+  -- an entry that finishes a call answers with figure 1's result: its last event is that call's end, and the call began in the history, acted
+  -- once since, and was given that result by figure 1 where it acted (Engine)
+  pub answers-are-figure1s : (e : List ℕ) (x : Result) → finishes (applyOf (applied (setupOf s .machine) es) e .answer) ≡ x ∷ []
+      → (us : List Event) × (eventsOf (applied (setupOf s .machine) es) e ≡ us ++ ends (getD e 2 0) x ∷ []) × Called (getD e 2 0) x first (past ++ us)
+  answers-are-figure1s = answered s used ok es
+
+  -- a finished call acted exactly once, between its beginning and its end, and ended with what figure 1 gave there (figure1's Once)
+  pub finished-call : (p : ℕ) (c : Call) (r : Result) (xs h rest : List Event) → past ≡ xs ++ (begins p c ∷ h ++ ends p r ∷ rest) → number (endsBy p) h ≡ 0
+      → (number (actsBy p) h ≡ 1) × Acted p c (after (afterAll first xs) (begins p c)) h r
+  finished-call p c r xs h rest q n = finished p c (afterAll first xs) h n r rest (follows-split first xs (begins p c ∷ h ++ ends p r ∷ rest) (rw q at (follows s used ok es)) .1)
+
+  -- an unfinished call has acted at most once, and its task began no other
+  pub unfinished-call : (p : ℕ) (c : Call) (xs h : List Event) → past ≡ xs ++ begins p c ∷ h → number (endsBy p) h ≡ 0 → (number (actsBy p) h ≤ 1) × (number (beginsBy p) h ≡ 0)
+  unfinished-call p c xs h q n = unfinished p c (afterAll first xs) h n (follows-split first xs _ (rw q at (follows s used ok es)) .1)
+
+  -- at every moment: no call of a task ends before it acts, none acts before it begins, and one runs at a time
+  pub calls-in-order : (p : ℕ) (xs ys : List Event) → past ≡ xs ++ ys
+      → (number (endsBy p) xs ≤ number (actsBy p) xs) × (number (actsBy p) xs ≤ number (beginsBy p) xs) × (number (beginsBy p) xs ≤ number (endsBy p) xs + 1)
+  calls-in-order p xs ys q = in-order p first refl xs ys (rw q at (follows s used ok es))
+
+-- and so for every record reached, by entries and runs in any mixture: some schedule of single entries reaches it (Reached)
+pub reached-matches : {m : Machine} → Reached m
+    → (r : Scheduled m) × Matches m (afterAll (start (valueGiven (r .setup))) (history pool (setupOf (r .setup) .machine) (r .entries)))
+reached-matches h = let r = scheduled h in (r, rw (r .reaches) at (matches (r .setup) (r .used) (r .ready) (r .entries)))
+
+-- the cells change only where a call acts
+pub only-acts-change : (h : List Event) (a : State) → ((q : ℕ) → number (actsBy q) h ≡ 0) → afterAll a h .cells ≡ a .cells
+only-acts-change = cells-stay
+
+-- the same by runs: the i-th eight bytes that a run writes are the reply of the i-th entry that it tries, at the record after the entries before
+-- it, and that entry's events stand at the end of a legal history (Engine); and the record after the run is that after all it tried (Runs)
+module _ (s : List ℕ) (used : ℕ) (ok : setupOf s .answer ≡ Ready used) (es : List (List ℕ)) (b out : List ℕ) (h : length b ≤ 65530) (k : 8 * entriesIn b ≤ length out) where
+  abbrev pub fresh : Machine
+  fresh = setupOf s .machine
+
+  pub run-follows : (i : ℕ) → i < length (tried (applied fresh es) (entriesOf b))
+      → (take 8 (drop (8 * i) (bufferOf (applied fresh es) b out)) ≡ replyBytes (applyOf (applied fresh (before fresh es b i)) (entry fresh es b i)))
+      × Follows (start (valueGiven s)) (history pool fresh (before fresh es b i) ++ eventsOf (applied fresh (before fresh es b i)) (entry fresh es b i))
+  run-follows = replies-follow s used ok es b out h k
+
+  pub run-leaves : ranOf (applied fresh es) b (length out) .machine ≡ applied (applied fresh es) (tried (applied fresh es) (entriesOf b))
+  run-leaves = run-tries (applied fresh es) b (length out) (in-range (applied fresh es) (schedule-keeps es fresh (setup-kept s used ok))) h k
+
+-- DEMAND 3. Load steps are bounded, and a task alone ends its call: from Bound, Solo and Room.
+-- (its theorems go here)

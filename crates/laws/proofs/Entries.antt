@@ -1,0 +1,167 @@
+-- What an entry does to a record, whatever its bytes and whatever the record: it is refused, it begins a call, or it makes a step. Nothing
+-- after this looks at an entry's bytes again. Assumes nothing.
+use Prim.Native.Nat.{ℕ, _<_, _≤_}
+use native.Mathlib.Omega.{arith}
+use mathlib.Core.Path.{_≡_, refl, ap, _∙_}
+use mathlib.Core.Bool.{true, false, not, true≢false}
+use mathlib.Core.List.{List}
+use mathlib.Core.Logic.{_≢_}
+use lib.Dec.{eqb, leb, ltb}
+use lib.ListN.{length, getD}
+use borrow.Author.Tests.{ltb-false, leb-false, eqb-true, eqb-false, not-true, not-false, lt-leb}
+use Rattle.wire.specs.Bytes.{entryMark, marked, wordAt}
+use Rattle.answers.specs.Numbers.{refusalNumber}
+use Rattle.answers.specs.declared.Refusal.{Refusal}
+use Rattle.answers.specs.declared.Refusal.the-variants.{NoTask, NoKind, NoCell, NotZero, NotNow, OtherCell, WrongMark, TooShort, Damaged}
+use Rattle.answers.specs.declared.Answer.the-variants.{Replied}
+use Rattle.answers.specs.declared.Reply.the-variants.{Moved}
+use Rattle.tasks.specs.declared.TaskNo.{TaskNo}
+use Rattle.tasks.specs.declared.Task.{Task}
+use Rattle.tasks.specs.declared.Call.{Call}
+use Rattle.tasks.specs.declared.Call.the-variants.{Load, Store, Release}
+use Rattle.tasks.specs.Records.{cellNo, noTask}
+use Rattle.tasks.specs.Calls.{begunOf}
+use Rattle.steps.specs.declared.Deed.{Deed}
+use Rattle.steps.specs.declared.Effect.{Effect}
+use Rattle.steps.specs.declared.Effect.the-variants.{Does, Refuses}
+use Rattle.steps.specs.declared.Write.the-variants.{Nothing}
+use Rattle.steps.specs.Table.{effectOf}
+use Rattle.entries.specs.declared.Entry.{Entry}
+use Rattle.entries.specs.Entry.{entryOf, padded, outside}
+use Rattle.entries.specs.Order.{loadOf, storeOf, releaseOf, callOf, orderOf}
+use Rattle.cells.specs.declared.Machine.{Machine}
+use Rattle.cells.specs.declared.Applied.{Applied}
+use Rattle.cells.specs.Machine.{seenOf, written, refusedBy, carriedOf, inRange}
+use Rattle.cells.specs.Apply.{obeyOf, readOf, applyOf}
+use Rattle.runs.specs.Counts.{accepted, kindOf, taskOf}
+use Rattle.laws.specs.Solo.{goBytes}
+use Rattle.laws.proofs.Phases.{by-test}
+
+abbrev pub taskNo : List ℕ → TaskNo
+taskNo e = record { 0 = getD e 2 0 }
+
+-- the effect of the task's step
+abbrev pub stepOf : Machine → List ℕ → Effect
+stepOf m e = effectOf (taskOf m e) (seenOf m (taskOf m e))
+
+-- the entry is of this kind, and its task, below P, is in this phase
+pub record Asks (m : Machine) (e : List ℕ) (k f : ℕ) : Type 0 where
+  pub kind : kindOf e ≡ k
+  pub task : getD e 2 0 < m .p
+  pub phase : taskOf m e .phase ≡ f
+
+-- the entry is a go, and the table has this deed for its task
+pub record Steps (m : Machine) (e : List ℕ) (d : Deed) : Type 0 where
+  pub kind : kindOf e ≡ 0
+  pub task : getD e 2 0 < m .p
+  pub does : stepOf m e ≡ Does d
+
+-- refusal 22 comes from the ranges, or from the step
+pub data Damage (m : Machine) (e : List ℕ) : Type 0 where
+  by-range : inRange m ≡ false → Damage m e
+  by-step : getD e 2 0 < m .p → stepOf m e ≡ Refuses Damaged → Damage m e
+
+abbrev pub begunBy : Machine → List ℕ → Call → Applied
+begunBy m e c = record { machine = written m (taskNo e) (begunOf (taskOf m e) c) Nothing; answer = Replied Moved; task = getD e 2 0 }
+
+abbrev pub steppedBy : Machine → List ℕ → Deed → Applied
+steppedBy m e d = record { machine = written m (taskNo e) (d .task) (d .write); answer = Replied (d .reply); task = getD e 2 0 }
+
+pub data Outcome (m : Machine) (e : List ℕ) : Applied → Type 0 where
+  refused : (i : ℕ) (r : Refusal) → (r ≡ Damaged → Damage m e) → Outcome m e (refusedBy m i r)
+  loads : Asks m e 1 0 → getD e 4 0 < m .n → Outcome m e (begunBy m e (Load (cellNo (getD e 4 0))))
+  stores : Asks m e 2 6 → getD e 4 0 ≡ taskOf m e .cell .0 → Outcome m e (begunBy m e (Store (wordAt e 6)))
+  releases : Asks m e 3 6 → Outcome m e (begunBy m e Release)
+  steps : (d : Deed) → Steps m e d → Outcome m e (steppedBy m e d)
+
+module _ (m : Machine) (e : List ℕ) where
+  abbrev t : Task
+  t = taskOf m e
+
+  abbrev kind : ℕ
+  kind = kindOf e
+
+  abbrev cell : ℕ
+  cell = getD e 4 0
+
+  abbrev entry : ℕ → Entry
+  entry s = record { task = taskNo e; kind = kind; cell = cellNo cell; spare = s; value = wordAt e 6 }
+
+  abbrev Out : Effect → Type 0
+  Out x = Outcome m e (carriedOf m (taskNo e) x)
+
+  -- a refusal other than 22
+  other : (i : ℕ) (r : Refusal) → refusalNumber r ≢ 22 → Outcome m e (refusedBy m i r)
+  other i r ne = refused i r (λ q. absurd (ne (ap refusalNumber q)))
+
+  no : (r : Refusal) → refusalNumber r ≢ 22 → Out (Refuses r)
+  unfolding carriedOf
+  no r ne = other (getD e 2 0) r ne
+
+  step : kind ≡ 0 → getD e 2 0 < m .p → (x : Effect) → stepOf m e ≡ x → Out x
+  unfolding carriedOf
+  step k h (Does d) q = steps d (record { kind = k; task = h; does = q })
+  step k h (Refuses r) q = refused (getD e 2 0) r (λ w. by-step h (q ∙ ap Refuses w))
+
+  -- 16 or 17, 18, 22 (the step)
+  call : (s : ℕ) → getD e 2 0 < m .p → kind ≤ 3 → outside (m .n) (entry s) ≡ false → Out (callOf (entry s) t (seenOf m t))
+  unfolding callOf loadOf storeOf releaseOf carriedOf outside
+  call s hp h3 hn =
+      by-test Out (eqb kind 0) _ _ (λ k. step (eqb-true kind 0 k) hp (stepOf m e) refl)
+      (λ k0. by-test Out (eqb kind 1) _ _
+      (λ k. by-test Out (not (eqb (t .phase) 0)) _ _ (λ w. no NotNow (omega arith))
+      (λ w. loads (asks 1 0 k (not-false _ w)) (leb-false (m .n) cell (rw k at hn))))
+      (λ k1. by-test Out (eqb kind 2) _ _
+      (λ k. by-test Out (not (eqb (t .phase) 6)) _ _ (λ w. no NotNow (omega arith))
+      (λ w. by-test Out (not (eqb cell (t .cell .0))) _ _ (λ x. no OtherCell (omega arith))
+      (λ x. stores (asks 2 6 k (not-false _ w)) (eqb-true _ _ (not-false _ x)))))
+      (λ k2. by-test Out (not (eqb (t .phase) 6)) _ _ (λ w. no NotNow (omega arith))
+      (λ w. releases (record {
+        kind = omega (arith, eqb-false kind 0 k0, eqb-false kind 1 k1, eqb-false kind 2 k2);
+        task = hp;
+        phase = eqb-true _ _ (not-false _ w);
+      })))))
+    where
+      asks : (k f : ℕ) → eqb kind k ≡ true → eqb (t .phase) f ≡ true → Asks m e k f
+      asks k f a b = record { kind = eqb-true kind k a; task = hp; phase = eqb-true (t .phase) f b }
+
+  -- the refusals in document 01's order
+  pub outcome : Outcome m e (applyOf m e)
+  unfolding applyOf readOf obeyOf orderOf entryOf
+  outcome =
+      by-test (Outcome m e) (not (inRange m)) _ _ (λ q. refused 0 Damaged (λ w. by-range (not-true _ q)))
+      (λ q. by-test (λ r. Outcome m e (readOf m r)) (ltb (length e) 10) _ _ (λ w. other 0 TooShort (omega arith))
+      (λ w. by-test (λ r. Outcome m e (readOf m r)) (not (marked entryMark e)) _ _ (λ x. other 0 WrongMark (omega arith))
+      (λ x. by-test Out (leb (m .p) (getD e 2 0)) _ _ (λ a. no NoTask (omega arith))
+      (λ a. by-test Out (ltb 3 kind) _ _ (λ b. no NoKind (omega arith))
+      (λ b. by-test Out (padded (entry (getD e 5 0))) _ _ (λ c. no NotZero (omega arith))
+      (λ c. by-test Out (outside (m .n) (entry (getD e 5 0))) _ _ (λ d. no NoCell (omega arith))
+      (λ d. call (getD e 5 0) (leb-false _ _ a) (ltb-false 3 kind b) d)))))))
+
+-- what holds of each outcome holds of the entry
+pub by-entry : (m : Machine) (e : List ℕ) (R : Applied → Type 0) → ((i : ℕ) (r : Refusal) → (r ≡ Damaged → Damage m e) → R (refusedBy m i r))
+    → (Asks m e 1 0 → getD e 4 0 < m .n → R (begunBy m e (Load (cellNo (getD e 4 0)))))
+    → (Asks m e 2 6 → getD e 4 0 ≡ taskOf m e .cell .0 → R (begunBy m e (Store (wordAt e 6))))
+    → (Asks m e 3 6 → R (begunBy m e Release))
+    → ((d : Deed) → Steps m e d → R (steppedBy m e d))
+    → R (applyOf m e)
+by-entry m e R refusal load store release step = go (outcome m e)
+  where
+    go : {a : Applied} → Outcome m e a → R a
+    go (refused i r w) = refusal i r w
+    go (loads a h) = load a h
+    go (stores a h) = store a h
+    go (releases a) = release a
+    go (steps d s) = step d s
+
+-- a refused entry leaves the machine, whatever the record
+pub refused-leaves : (m : Machine) (e : List ℕ) → accepted (applyOf m e .answer) ≡ false → applyOf m e .machine ≡ m
+refused-leaves m e =
+    by-entry m e (λ a. accepted (a .answer) ≡ false → a .machine ≡ m) (λ i r w h. refl) (λ a l h. absurd (true≢false h)) (λ a l h. absurd (true≢false h))
+    (λ a h. absurd (true≢false h)) (λ d s h. absurd (true≢false h))
+
+-- a task's go, in a record that is in range, is its step
+pub go-steps : (m : Machine) (p : ℕ) → inRange m ≡ true → p < m .p
+    → applyOf m (goBytes p) ≡ carriedOf m (record { 0 = p }) (effectOf (getD (m .tasks) p noTask) (seenOf m (getD (m .tasks) p noTask)))
+unfolding applyOf readOf obeyOf orderOf callOf entryOf marked padded wordAt outside
+go-steps m p r h = rw (r, lt-leb (m .p) p h) refl

@@ -1,0 +1,211 @@
+-- What a deed must show of itself so that every fact of `Kept` holds after it, and the deeds that show it alike. Assumes nothing.
+use Prim.Native.Nat.{ℕ, _+_, _-_, _≤_, _<_}
+use native.Mathlib.Omega.{arith}
+use native.Mathlib.Decide.{ℕ-discrete}
+use mathlib.Core.Path.{_≡_, refl, sym, _∙_}
+use mathlib.Core.List.{List}
+use mathlib.Core.Logic.{_≢_}
+use lib.ListN.{length, getD, set, length-set}
+use lib.Dec.{T, eqb}
+use Rattle.tallies.specs.Tally.{bit, tally}
+use Rattle.tallies.proofs.Tally.{tally-set, tally-at, tally-two, down-at, bit-eq, bit-ne, bit-le, put-at, T→true}
+use Rattle.tasks.specs.declared.NodeNo.{NodeNo}
+use Rattle.tasks.specs.declared.TaskNo.{TaskNo}
+use Rattle.tasks.specs.declared.Task.{Task}
+use Rattle.tasks.specs.Records.{noTask, onward, owning}
+use Rattle.tasks.specs.Phases.{holds, live, passed}
+use Rattle.tasks.specs.Holders.{keeps}
+use Rattle.steps.specs.declared.Write.{Write}
+use Rattle.steps.specs.declared.Write.the-variants.{Nothing, Point, Count, Value}
+use Rattle.cells.specs.declared.Machine.{Machine}
+use Rattle.cells.specs.Machine.{cellsAfter, valuesAfter, countsAfter, written}
+use Rattle.laws.specs.Meaning.{points, claims, pointers, claimers, Apart, Ready, InRange, Kept}
+use Rattle.laws.proofs.Phases.{phase-gives}
+
+-- task q's record
+abbrev pub task : Machine → ℕ → Task
+task m q = getD (m .tasks) q noTask
+
+-- a live task's own node, and a passed task's held one, weigh 1
+pub owned : (t : Task) (i : ℕ) → T (live (t .phase)) → t .own .0 ≡ i → 1 ≤ claims i t
+owned t i l r = rw (T→true (live (t .phase)) l) (omega (arith, bit-eq (t .own .0) i r))
+
+pub kept : (t : Task) (i : ℕ) → t .phase ≤ 14 → T (passed (t .phase)) → t .held .0 ≡ i → 1 ≤ keeps i t
+kept t i h k r = rw (T→true (holds (t .phase)) (phase-gives passed holds tt (t .phase) h k)) (omega (arith, bit-eq (t .held .0) i r))
+
+-- no write changes a table's length
+cells-after : (m : Machine) (w : Write) → length (cellsAfter m w) ≡ length (m .cells)
+cells-after m Nothing = refl
+cells-after m (Point x v) = length-set (m .cells) (x .0) (v .0)
+cells-after m (Count v c) = refl
+cells-after m (Value v y) = refl
+
+values-after : (m : Machine) (w : Write) → length (valuesAfter m w) ≡ length (m .values)
+values-after m Nothing = refl
+values-after m (Point x v) = refl
+values-after m (Count v c) = refl
+values-after m (Value v y) = length-set (m .values) (v .0) y
+
+counts-after : (m : Machine) (w : Write) → length (countsAfter m w) ≡ length (m .counts)
+counts-after m Nothing = refl
+counts-after m (Point x v) = refl
+counts-after m (Count v c) = length-set (m .counts) (v .0) c
+counts-after m (Value v y) = refl
+
+module _ (m : Machine) (K : Kept m) where
+  pub in-list : {q : ℕ} → q < m .p → q < length (m .tasks)
+  in-list h = omega (arith, K .sound .tasks-length, K .sound .tasks)
+
+  pub in-counts : {i : ℕ} → i < m .k → i < length (m .counts)
+  in-counts h = omega (arith, K .sound .counts-length, K .sound .nodes)
+
+  pub in-values : {i : ℕ} → i < m .k → i < length (m .values)
+  in-values h = omega (arith, K .sound .values-length, K .sound .nodes)
+
+  pub in-cells : {x : ℕ} → x < m .n → x < length (m .cells)
+  in-cells h = omega (arith, K .sound .cells-length, K .sound .cells)
+
+  -- a node that a cell points at is nobody's own
+  pub pointed : (x i : ℕ) → x < m .n → getD (m .cells) x 0 ≡ i → (y : ℕ) → y < m .p → T (live (task m y .phase)) → task m y .own .0 ≢ i
+  pointed x i hx q y hy l r =
+      let j = getD (m .cells) x 0 in
+      omega (
+        arith,
+        K .sole j (K .sound .pointed x hx),
+        tally-at (points j) (m .n) (m .cells) x 0 hx (in-cells hx),
+        bit-eq j j refl,
+        tally-at (claims j) (m .p) (m .tasks) y noTask hy (in-list hy),
+        owned (task m y) j l (r ∙ sym q),
+      )
+
+  -- two tasks never own one node
+  pub own-apart : (x y : ℕ) → x < m .p → y < m .p → x ≢ y → T (live (task m x .phase)) → T (live (task m y .phase)) → task m x .own .0 ≢ task m y .own .0
+  own-apart x y hx hy ne lx ly r =
+      let i = task m y .own .0 in
+      omega (
+        arith,
+        K .sole i (K .sound .each y hy .own),
+        owned (task m x) i lx r,
+        owned (task m y) i ly refl,
+        tally-two (claims i) (m .p) (m .tasks) x y noTask ne hx (in-list hx) hy (in-list hy),
+      )
+
+-- task p's record is t
+module _ (m : Machine) (K : Kept m) (p : TaskNo) (hp : p .0 < m .p) (t : Task) (e : task m (p .0) ≡ t) where
+  abbrev tasks-with : Task → List Task
+  tasks-with t′ = set (m .tasks) (p .0) t′
+
+  -- t's part of every sum, and the sums after t becomes t′
+  pub part : (w : Task → ℕ) → w t ≤ tally w (m .p) (m .tasks)
+  part w = rw e at (tally-at w (m .p) (m .tasks) (p .0) noTask hp (in-list m K hp))
+
+  pub moved : (w : Task → ℕ) (t′ : Task) → tally w (m .p) (tasks-with t′) + w t ≡ tally w (m .p) (m .tasks) + w t′
+  moved w t′ = rw e at (tally-set w (m .p) (m .tasks) (p .0) t′ noTask hp (in-list m K hp))
+
+  pub range : InRange (m .n) (m .k) t
+  range = rw e at (K .sound .each (p .0) hp)
+
+  abbrev All-apart : Task → Type 0
+  All-apart t′ = (x y : ℕ) → x < m .p → y < m .p → Apart (getD (tasks-with t′) x noTask) (getD (tasks-with t′) y noTask)
+
+  -- the fact of each pair of tasks, after t became t′
+  pub pairs : (t′ : Task) → ((y : ℕ) → y < m .p → y ≢ p .0 → Apart t′ (task m y)) → ((x : ℕ) → x < m .p → x ≢ p .0 → Apart (task m x) t′) → Apart t′ t′ → All-apart t′
+  pairs t′ left right self x y hx hy =
+      let in-p = in-list m K hp in
+      put-at (λ a. Apart a (getD (tasks-with t′) y noTask)) (m .tasks) (p .0) t′ noTask in-p
+      (put-at (Apart t′) (m .tasks) (p .0) t′ noTask in-p self y (left y hy)) x
+      (λ nx. put-at (Apart (task m x)) (m .tasks) (p .0) t′ noTask in-p (right x hx nx) y (λ ny. K .held x y hx hy))
+
+  -- and so where t′ holds and owns no more than t
+  pub tame : (t′ : Task) → (T (passed (t′ .phase)) → T (passed (t .phase)) × (t′ .held .0 ≡ t .held .0))
+      → (T (live (t′ .phase)) → T (live (t .phase)) × (t′ .own .0 ≡ t .own .0)) → All-apart t′
+  tame t′ passes lives = pairs t′
+      (λ y hy ny k l q. let a : Apart t (task m y) = rw e at (K .held (p .0) y hp hy) in a (passes k .0) l (q ∙ passes k .1))
+      (λ x hx nx k l q. let a : Apart (task m x) t = rw e at (K .held x (p .0) hx hp) in a k (lives l .0) (sym (lives l .1) ∙ q))
+      (λ k l q. let a : Apart t t = rw e at (K .held (p .0) (p .0) hp hp) in a (passes k .0) (lives l .0) (sym (lives l .1) ∙ q ∙ passes k .1))
+
+  -- t′ claims, holds and owns no more than t
+  pub record Calm (t′ : Task) : Type 0 where
+    pub range : InRange (m .n) (m .k) t′
+    pub less : (i : ℕ) → claims i t′ ≤ claims i t
+    pub passes : T (passed (t′ .phase)) → T (passed (t .phase)) × (t′ .held .0 ≡ t .held .0)
+    pub lives : T (live (t′ .phase)) → T (live (t .phase)) × (t′ .own .0 ≡ t .own .0)
+    pub ready : t′ .phase ≢ 8
+
+  -- what t becoming t′ and the three tables must show
+  pub record Local (t′ : Task) (cells values counts : List ℕ) : Type 0 where
+    pub in-range : InRange (m .n) (m .k) t′
+    pub pointed : (x : ℕ) → x < m .n → getD cells x 0 < m .k
+    pub balance : (i : ℕ) → i < m .k → getD counts i 0 + pointers m i + claims i t + keeps i t ≡ getD (m .counts) i 0 + tally (points i) (m .n) cells + claims i t′ + keeps i t′
+    pub sole : (i : ℕ) → i < m .k → tally (points i) (m .n) cells + claimers m i + claims i t′ ≤ 1 + claims i t
+    pub held : All-apart t′
+    pub ready : Ready values t′
+    pub written : (x : ℕ) → x < m .p → x ≢ p .0 → Ready values (task m x)
+
+  abbrev pub Leaves : Task → Write → Type 0
+  Leaves t′ w = Local t′ (cellsAfter m w) (valuesAfter m w) (countsAfter m w)
+
+  pub stepped : (t′ : Task) (w : Write) → Leaves t′ w → Kept (written m p t′ w)
+  stepped t′ w l = record {
+    sound = record {
+      cells-length = cells-after m w ∙ K .sound .cells-length;
+      values-length = values-after m w ∙ K .sound .values-length;
+      counts-length = counts-after m w ∙ K .sound .counts-length;
+      tasks-length = length-set (m .tasks) (p .0) t′ ∙ K .sound .tasks-length;
+      a-cell = K .sound .a-cell;
+      cells = K .sound .cells;
+      a-task = K .sound .a-task;
+      tasks = K .sound .tasks;
+      room = K .sound .room;
+      nodes = K .sound .nodes;
+      pointed = l .pointed;
+      each = λ q hq. put-at (InRange (m .n) (m .k)) (m .tasks) (p .0) t′ noTask (in-list m K hp) (l .in-range) q (λ n. K .sound .each q hq);
+    };
+    counted = λ i h. omega (arith, K .counted i h, l .balance i h, moved (claims i) t′, moved (keeps i) t′);
+    sole = λ i h. omega (arith, l .sole i h, moved (claims i) t′);
+    held = l .held;
+    written = λ x hx. put-at (Ready (valuesAfter m w)) (m .tasks) (p .0) t′ noTask (in-list m K hp) (l .ready) x (l .written x hx);
+  }
+
+  -- pointers and values stay, the counts follow the record, and it claims, holds and owns no more
+  pub calm : (t′ : Task) (counts : List ℕ) → Calm t′
+      → ((i : ℕ) → i < m .k → getD counts i 0 + claims i t + keeps i t ≡ getD (m .counts) i 0 + claims i t′ + keeps i t′) → Local t′ (m .cells) (m .values) counts
+  calm t′ counts c b = record {
+    in-range = c .range;
+    pointed = K .sound .pointed;
+    balance = λ i h. omega (arith, b i h);
+    sole = λ i h. omega (arith, K .sole i h, c .less i);
+    held = tame t′ (c .passes) (c .lives);
+    ready = λ q. absurd (c .ready q);
+    written = λ x hx nx. K .written x hx;
+  }
+
+  pub alone : (t′ : Task) → Calm t′ → ((i : ℕ) → claims i t + keeps i t ≡ claims i t′ + keeps i t′) → Leaves t′ Nothing
+  alone t′ c b = calm t′ (m .counts) c (λ i h. omega (arith, b i))
+
+  -- the held node's count goes down
+  pub lowers : (t′ : Task) → 0 < getD (m .counts) (t .held .0) 0 → Calm t′ → ((i : ℕ) → claims i t + keeps i t ≡ claims i t′ + keeps i t′ + bit (eqb (t .held .0) i))
+      → Leaves t′ (Count (t .held) (getD (m .counts) (t .held .0) 0 - 1))
+  lowers t′ h c b =
+      calm t′ (set (m .counts) (t .held .0) (getD (m .counts) (t .held .0) 0 - 1)) c
+      (λ i hi. omega (arith, b i, down-at (m .counts) (t .held .0) i (in-counts m K (range .held)) h))
+
+  -- the task comes to own a node that nothing points at and nobody claims or holds, but the task itself
+  pub claiming : (v : NodeNo) (counts : List ℕ) → v .0 < m .k → pointers m (v .0) + claimers m (v .0) ≡ 0
+      → ((x : ℕ) → x < m .p → x ≢ p .0 → keeps (v .0) (task m x) ≡ 0)
+      → ((i : ℕ) → claims i t ≡ 0)
+      → ((i : ℕ) → i < m .k → getD counts i 0 + keeps i t ≡ getD (m .counts) i 0 + bit (eqb (v .0) i))
+      → Local (onward (owning t v) 0) (m .cells) (m .values) counts
+  claiming v counts hv free unheld z b = record {
+    in-range = record { phase = omega arith; cell = range .cell; held = range .held; own = hv; cursor = range .cursor };
+    pointed = K .sound .pointed;
+    balance = λ i h. omega (arith, b i h, z i);
+    sole = λ i h. elim (ℕ-discrete (v .0) i) [
+      | yes q ↦ omega (arith, rw q at free, bit-le (eqb (v .0) i))
+      | no q ↦ omega (arith, K .sole i h, bit-ne (v .0) i q)
+    ];
+    held = pairs (onward (owning t v) 0) (λ y hy ny k. absurd k)
+        (λ x hx nx k l q. omega (arith, unheld x hx nx, kept (task m x) (v .0) (K .sound .each x hx .phase) k (sym q))) (λ k. absurd k);
+    ready = λ q. absurd (omega arith);
+    written = λ x hx nx. K .written x hx;
+  }

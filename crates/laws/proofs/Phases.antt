@@ -1,0 +1,64 @@
+-- By phase, and by test. Assumes nothing.
+use Prim.Native.Nat.{ℕ, zero, suc, _≤_, _<_}
+use native.Mathlib.Omega.{arith}
+use native.Mathlib.Decide.{ℕ-discrete}
+use mathlib.Core.Path.{_≡_, refl, subst, sym}
+use mathlib.Core.Bool.{Bool, true, false, cond, not, _&&_, _||_}
+use lib.Dec.{T}
+
+pub by-phase : (R : ℕ → Type 0) → R 0 → R 1 → R 2 → R 3 → R 4 → R 5 → R 6 → R 7 → R 8 → R 9 → R 10 → R 11 → R 12 → R 13 → R 14 → (n : ℕ) → n ≤ 14 → R n
+by-phase R r0 r1 r2 r3 r4 r5 r6 r7 r8 r9 r10 r11 r12 r13 r14 zero h = r0
+by-phase R r0 r1 r2 r3 r4 r5 r6 r7 r8 r9 r10 r11 r12 r13 r14 (suc zero) h = r1
+by-phase R r0 r1 r2 r3 r4 r5 r6 r7 r8 r9 r10 r11 r12 r13 r14 (suc (suc zero)) h = r2
+by-phase R r0 r1 r2 r3 r4 r5 r6 r7 r8 r9 r10 r11 r12 r13 r14 (suc (suc (suc zero))) h = r3
+by-phase R r0 r1 r2 r3 r4 r5 r6 r7 r8 r9 r10 r11 r12 r13 r14 (suc (suc (suc (suc zero)))) h = r4
+by-phase R r0 r1 r2 r3 r4 r5 r6 r7 r8 r9 r10 r11 r12 r13 r14 (suc (suc (suc (suc (suc zero))))) h = r5
+by-phase R r0 r1 r2 r3 r4 r5 r6 r7 r8 r9 r10 r11 r12 r13 r14 (suc (suc (suc (suc (suc (suc zero)))))) h = r6
+by-phase R r0 r1 r2 r3 r4 r5 r6 r7 r8 r9 r10 r11 r12 r13 r14 (suc (suc (suc (suc (suc (suc (suc zero))))))) h = r7
+by-phase R r0 r1 r2 r3 r4 r5 r6 r7 r8 r9 r10 r11 r12 r13 r14 (suc (suc (suc (suc (suc (suc (suc (suc zero)))))))) h = r8
+by-phase R r0 r1 r2 r3 r4 r5 r6 r7 r8 r9 r10 r11 r12 r13 r14 (suc (suc (suc (suc (suc (suc (suc (suc (suc zero))))))))) h = r9
+by-phase R r0 r1 r2 r3 r4 r5 r6 r7 r8 r9 r10 r11 r12 r13 r14 (suc (suc (suc (suc (suc (suc (suc (suc (suc (suc zero)))))))))) h = r10
+by-phase R r0 r1 r2 r3 r4 r5 r6 r7 r8 r9 r10 r11 r12 r13 r14 (suc (suc (suc (suc (suc (suc (suc (suc (suc (suc (suc zero))))))))))) h = r11
+by-phase R r0 r1 r2 r3 r4 r5 r6 r7 r8 r9 r10 r11 r12 r13 r14 (suc (suc (suc (suc (suc (suc (suc (suc (suc (suc (suc (suc zero)))))))))))) h = r12
+by-phase R r0 r1 r2 r3 r4 r5 r6 r7 r8 r9 r10 r11 r12 r13 r14 (suc (suc (suc (suc (suc (suc (suc (suc (suc (suc (suc (suc (suc zero))))))))))))) h = r13
+by-phase R r0 r1 r2 r3 r4 r5 r6 r7 r8 r9 r10 r11 r12 r13 r14 (suc (suc (suc (suc (suc (suc (suc (suc (suc (suc (suc (suc (suc (suc zero)))))))))))))) h = r14
+by-phase R r0 r1 r2 r3 r4 r5 r6 r7 r8 r9 r10 r11 r12 r13 r14 (suc (suc (suc (suc (suc (suc (suc (suc (suc (suc (suc (suc (suc (suc (suc n))))))))))))))) h = absurd (omega arith)
+
+-- what holds either way holds of the choice
+pub by-test : {A : Type 0} (R : A → Type 0) (b : Bool) (x y : A) → (b ≡ true → R x) → (b ≡ false → R y) → R (cond b x y)
+by-test R true x y f g = f refl
+by-test R false x y f g = g refl
+
+-- by a Bool, with what it is
+pub either : (R : Bool → Type 0) (b : Bool) → (b ≡ true → R true) → (b ≡ false → R false) → R b
+either R true f g = f refl
+either R false f g = g refl
+
+-- a test that passes at each number below n, computed
+abbrev pub below : ℕ → (ℕ → Bool) → Bool
+below zero f = true
+below (suc n) f = f n && below n f
+
+and-left : (a b : Bool) → T (a && b) → T a
+and-left true b t = tt
+and-left false b t = t
+
+and-right : (a b : Bool) → T (a && b) → T b
+and-right true b t = t
+and-right false b t = absurd t
+
+pub each-below : (f : ℕ → Bool) (n : ℕ) → T (below n f) → (i : ℕ) → i < n → T (f i)
+each-below f zero t i h = absurd (omega arith)
+each-below f (suc n) t i h =
+    elim (ℕ-discrete i n) [
+      | yes e ↦ subst (λ (j : ℕ). T (f j)) (sym e) (and-left (f n) (below n f) t)
+      | no ne ↦ each-below f n (and-right (f n) (below n f) t) i (omega arith)
+    ]
+
+pub implied : (a b : Bool) → T (not a || b) → T a → T b
+implied true b t k = t
+implied false b t k = absurd k
+
+-- one test of a phase gives another, where the checker finds so at all fifteen
+pub phase-gives : (a b : ℕ → Bool) → T (below 15 (λ n. not (a n) || b n)) → (n : ℕ) → n ≤ 14 → T (a n) → T (b n)
+phase-gives a b t n h = implied (a n) (b n) (each-below (λ k. not (a k) || b k) 15 t n (omega arith))

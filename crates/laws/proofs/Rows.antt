@@ -1,0 +1,93 @@
+-- The step table as a relation: the phase that a row is for, its deed, and what its test found. Nothing after this looks at a test or at a
+-- refused step again. Assumes nothing.
+use Prim.Native.Nat.{ℕ, _+_, _-_, _≤_, _<_}
+use native.Mathlib.Omega.{arith}
+use native.Mathlib.Decide.{decLe}
+use mathlib.Core.Path.{_≡_}
+use mathlib.Core.Logic.{_≢_}
+use lib.Dec.{eqb, ltb}
+use lib.ListN.{getD}
+use borrow.Author.Tests.{ltb-false, eqb-true, eqb-false}
+use Rattle.answers.specs.declared.Reply.{Reply}
+use Rattle.answers.specs.declared.Reply.the-variants.{Moved, Loaded, Took, Lost, Released}
+use Rattle.tasks.specs.declared.NodeNo.{NodeNo}
+use Rattle.tasks.specs.declared.Task.{Task}
+use Rattle.tasks.specs.Records.{onward, holding, owning, probing}
+use Rattle.steps.specs.declared.Seen.{Seen}
+use Rattle.steps.specs.declared.Write.{Write}
+use Rattle.steps.specs.declared.Write.the-variants.{Nothing, Point, Count, Value}
+use Rattle.steps.specs.declared.Counted.{Counted}
+use Rattle.steps.specs.declared.Counted.the-variants.{To, Broken}
+use Rattle.steps.specs.declared.Deed.{Deed}
+use Rattle.steps.specs.declared.Effect.{Effect}
+use Rattle.steps.specs.declared.Effect.the-variants.{Does, Refuses}
+use Rattle.steps.specs.Table.{after, raisedOf, loweredOf, counting, rows, beyond, effectOf}
+use Rattle.steps.proofs.Rows.{effect-beyond}
+use Rattle.laws.proofs.Phases.{by-phase, by-test}
+
+abbrev pub deed : Task → Write → Reply → Deed
+deed t w r = record { task = t; write = w; reply = r }
+
+-- a deed that raises or lowers the count of m
+abbrev pub raised : Task → Seen → Task → Reply → Deed
+raised t s t′ r = deed t′ (Count (t .held) (s .«held_count» + 1)) r
+
+abbrev pub lowered : Task → Seen → Task → Reply → Deed
+lowered t s t′ r = deed t′ (Count (t .held) (s .«held_count» - 1)) r
+
+pub data Moves (t : Task) (s : Seen) : ℕ → Deed → Type 0 where
+  l1 : Moves t s 1 (deed (onward (holding t (s .here)) 2) Nothing Moved)
+  l2 : s .«held_count» ≤ s .tasks → Moves t s 2 (raised t s (onward t 3) Moved)
+  l3-passed : t .held .0 ≡ s .here .0 → Moves t s 3 (deed (onward t 4) Nothing Moved)
+  l3-turned : t .held .0 ≢ s .here .0 → Moves t s 3 (deed (onward t 5) Nothing Moved)
+  l4 : Moves t s 4 (deed (onward t 6) Nothing (Loaded (s .«held_value»)))
+  l5 : 0 < s .«held_count» → Moves t s 5 (lowered t s (onward t 1) Moved)
+  s1 : Moves t s 7 (deed (onward t 8) (Value (t .own) (t .value)) Moved)
+  s2-swapped : t .held .0 ≡ s .here .0 → Moves t s 8 (deed (onward t 9) (Point (t .cell) (t .own)) Moved)
+  s2-missed : t .held .0 ≢ s .here .0 → Moves t s 8 (deed (onward t 13) Nothing Moved)
+  s3 : 0 < s .«held_count» → Moves t s 9 (lowered t s (onward t 10) Moved)
+  s4-took : s .«held_count» ≡ 1 → Moves t s 10 (deed (onward (owning t (t .held)) 0) Nothing Took)
+  s4-shared : s .«held_count» ≢ 1 → Moves t s 10 (deed (onward t 11) Nothing Moved)
+  s5 : 0 < s .«held_count» → Moves t s 11 (lowered t s (onward (probing t (after (s .nodes) (t .held))) 12) Moved)
+  s6-took : s .«cursor_count» ≡ 0 → Moves t s 12 (deed (onward (owning t (t .cursor)) 0) (Count (t .cursor) 1) Took)
+  s6-busy : s .«cursor_count» ≢ 0 → Moves t s 12 (deed (onward (probing t (after (s .nodes) (t .cursor))) 12) Nothing Moved)
+  s7 : 0 < s .«held_count» → Moves t s 13 (lowered t s (onward t 0) Lost)
+  r1 : 0 < s .«held_count» → Moves t s 14 (lowered t s (onward t 0) Released)
+
+-- a step that counts is refused, or the count is as it must be
+pub by-lowered : (R : Counted → Type 0) (v : NodeNo) (c : ℕ) → R Broken → (0 < c → R (To (Count v (c - 1)))) → R (loweredOf v c)
+unfolding loweredOf
+by-lowered R v c b f = by-test R (eqb c 0) _ _ (λ q. b) (λ q. f (omega (arith, eqb-false c 0 q)))
+
+pub by-raised : (R : Counted → Type 0) (p : ℕ) (v : NodeNo) (c : ℕ) → R Broken → (c ≤ p → R (To (Count v (c + 1)))) → R (raisedOf p v c)
+unfolding raisedOf
+by-raised R p v c b f = by-test R (ltb p c) _ _ (λ q. b) (λ q. by-test R (eqb c 255) _ _ (λ w. b) (λ w. f (ltb-false p c q)))
+
+module _ (t : Task) (s : Seen) where
+  abbrev Reads : ℕ → Effect → Type 0
+  Reads n (Does d) = Moves t s n d
+  Reads n (Refuses r) = Unit {0}
+
+  lowering-reads : (n : ℕ) (t′ : Task) (r : Reply) → (0 < s .«held_count» → Moves t s n (lowered t s t′ r)) → Reads n (counting (loweredOf (t .held) (s .«held_count»)) t′ r)
+  lowering-reads n t′ r f = by-lowered (λ c. Reads n (counting c t′ r)) (t .held) (s .«held_count») tt f
+
+  reads : Reads (t .phase) (effectOf t s)
+  unfolding effectOf rows
+  reads = elim (decLe (t .phase) 14) [
+    | yes h ↦ by-phase (λ n. Reads n (getD rows n beyond t s))
+        tt l1 (by-raised (λ c. Reads 2 (counting c (onward t 3) Moved)) (s .tasks) (t .held) (s .«held_count») tt l2)
+        (by-test (Reads 3) (eqb (t .held .0) (s .here .0)) _ _ (λ q. l3-passed (eqb-true _ _ q)) (λ q. l3-turned (eqb-false _ _ q)))
+        l4 (lowering-reads 5 (onward t 1) Moved l5) tt s1
+        (by-test (Reads 8) (eqb (t .held .0) (s .here .0)) _ _ (λ q. s2-swapped (eqb-true _ _ q)) (λ q. s2-missed (eqb-false _ _ q)))
+        (lowering-reads 9 (onward t 10) Moved s3)
+        (by-test (Reads 10) (eqb (s .«held_count») 1) _ _ (λ q. s4-took (eqb-true _ _ q)) (λ q. s4-shared (eqb-false _ _ q)))
+        (lowering-reads 11 (onward (probing t (after (s .nodes) (t .held))) 12) Moved s5)
+        (by-test (Reads 12) (eqb (s .«cursor_count») 0) _ _ (λ q. s6-took (eqb-true _ _ q)) (λ q. s6-busy (eqb-false _ _ q)))
+        (lowering-reads 13 (onward t 0) Lost s7) (lowering-reads 14 (onward t 0) Released r1)
+        (t .phase) h
+    | no h ↦ rw (effect-beyond t s (omega arith)) tt
+  ]
+
+  -- a step that is made is a row's
+  pub moves : (d : Deed) → effectOf t s ≡ Does d → Moves t s (t .phase) d
+  moves d q = rw q at reads

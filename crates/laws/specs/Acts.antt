@@ -1,0 +1,91 @@
+-- A machine record in figure 1's terms: its values and sets, where each task's call stands, and the events of an entry.
+use Prim.Native.Nat.{ℕ, _<_}
+use mathlib.Core.Path.{_≡_}
+use mathlib.Core.Bool.{Bool, true, false, cond, _&&_}
+use mathlib.Core.List.{List, [], _∷_, _++_}
+use lib.Dec.{eqb}
+use lib.ListN.{getD}
+use Rattle.tallies.specs.Lists.{within}
+use Rattle.wire.specs.Bytes.{wordAt}
+use Rattle.answers.specs.declared.Answer.{Answer}
+use Rattle.answers.specs.declared.Answer.the-variants.{Replied, Refused}
+use Rattle.answers.specs.declared.Reply.{Reply}
+use Rattle.answers.specs.declared.Reply.the-variants.{Moved, Loaded, Took, Lost, Released}
+use Rattle.tasks.specs.declared.Task.{Task}
+use Rattle.tasks.specs.Records.{noTask}
+use Rattle.tasks.specs.Phases.{passed}
+use Rattle.cells.specs.declared.Machine.{Machine}
+use Rattle.cells.specs.Apply.{applyOf}
+use Rattle.runs.specs.Counts.{kindOf, taskOf}
+use Rattle.figure1.specs.Figure1.{Call, load, store, release, Result, value, took, lost, released}
+use Rattle.figure1.specs.Histories.{Status, quiet, asked, acted, State, Event, begins, acts, ends}
+
+-- the value of cell x is that of the node it points at
+abbrev pub valueOfCell : Machine → ℕ → ℕ
+valueOfCell m x = getD (m .values) (getD (m .cells) x 0) 0
+
+-- the phases in which a task is in a set: 4, 6, 7, 8 and 14
+abbrev pub inSet : ℕ → Bool
+inSet f = passed f
+
+-- the task is in S[x], where x points at node v: its phase is one of those, its cell is x, and v is its m
+abbrev pub linkedAt : ℕ → ℕ → Task → Bool
+linkedAt v x t = inSet (t .phase) && (eqb (t .cell .0) x && eqb v (t .held .0))
+
+-- where the call of a task's record stands, in phase f
+abbrev pub standing : List ℕ → ℕ → Task → Status
+standing values f t =
+    cond (eqb f 4) (acted (value (getD values (t .held .0) 0)))
+    (cond (within 1 5 f) (asked (load (t .cell .0)))
+    (cond (within 7 8 f) (asked (store (t .cell .0) (t .value)))
+    (cond (within 9 12 f) (acted took)
+    (cond (eqb f 13) (acted lost)
+    (cond (eqb f 14) (asked (release (t .cell .0)))
+    quiet)))))
+
+-- the record is in the state that figure 1 is in
+pub record Matches (m : Machine) (a : State) : Type 0 where
+  pub vals : (x : ℕ) → x < m .n → valueOfCell m x ≡ a .cells .val x
+  pub sets : (x q : ℕ) → x < m .n → q < m .p → linkedAt (getD (m .cells) x 0) x (getD (m .tasks) q noTask) ≡ a .cells .member x q
+  pub calls : (q : ℕ) → q < m .p → standing (m .values) (getD (m .tasks) q noTask .phase) (getD (m .tasks) q noTask) ≡ a .status q
+
+-- the call that an accepted entry of kind 1, 2 or 3 begins: a load names its cell, a store its cell and value, a release is of the linked cell
+abbrev pub beginning : ℕ → List ℕ → Task → List Call
+beginning kind e t =
+    cond (eqb kind 1) (load (getD e 4 0) ∷ [])
+    (cond (eqb kind 2) (store (getD e 4 0) (wordAt e 6) ∷ [])
+    (cond (eqb kind 3) (release (t .cell .0) ∷ []) []))
+
+-- a step acts: a load at its passing check (L3 to L4), a store at its swap (S2, took or not), a release at its one step (R1)
+abbrev pub actsFrom : ℕ → ℕ → Bool
+actsFrom f f′ = cond (eqb f 3) (eqb f′ 4) (cond (eqb f 8) true (eqb f 14))
+
+-- a call ends with its reply
+abbrev pub ending : Reply → List Result
+ending Moved = []
+ending (Loaded v) = value v ∷ []
+ending Took = took ∷ []
+ending Lost = lost ∷ []
+ending Released = released ∷ []
+
+-- what an answer ends a call with: one result, or none
+abbrev pub finishes : Answer → List Result
+finishes (Replied r) = ending r
+finishes (Refused r) = []
+
+abbrev pub each : {A B : Type 0} → (A → B) → List A → List B
+each f [] = []
+each f (x ∷ xs) = f x ∷ each f xs
+
+-- the events of an accepted entry of task p: go may act and may end a call, the other kinds begin one
+abbrev pub eventsBy : Bool → ℕ → Machine → Machine → List ℕ → Reply → List Event
+eventsBy true p m m′ e r = cond (actsFrom (taskOf m e .phase) (taskOf m′ e .phase)) (acts p ∷ []) [] ++ each (ends p) (ending r)
+eventsBy false p m m′ e r = each (begins p) (beginning (kindOf e) e (taskOf m e))
+
+-- a refused entry has none
+abbrev pub eventsIn : Answer → Machine → Machine → List ℕ → List Event
+eventsIn (Refused r) m m′ e = []
+eventsIn (Replied r) m m′ e = eventsBy (eqb (kindOf e) 0) (getD e 2 0) m m′ e r
+
+unfoldable pub eventsOf : Machine → List ℕ → List Event
+eventsOf m e = eventsIn (applyOf m e .answer) m (applyOf m e .machine) e

@@ -1,0 +1,5 @@
+pub mod Meaning
+pub mod Acts
+pub mod Schedules
+pub mod Solo
+pub mod Numbers
