@@ -1,0 +1,55 @@
+-- Document 01's schedules by hand that are marked P, in its order and numbering, as rows of one table.
+use Prim.Native.Nat.{ℕ}
+use mathlib.Core.List.{List, [], _∷_, _++_}
+use lib.ListN.{replicate}
+use Rattle.faults.specs.Bytes.{setup, go, load, store, release, small}
+use Rattle.faults.specs.Benches.{mended, printed}
+use Rattle.cases.specs.Rows.{Row, sets, enters, runs, gives, counts, moves, loads, stores}
+
+-- n values of 7
+abbrev pub sevens : ℕ → List ℕ
+sevens n = replicate n 7
+
+unfoldable pub cases : List Row
+cases =
+    -- 1. 64 cells and 16 tasks are taken with 96 nodes, the fewest that N+2P allows, and use 6+4*64 bytes; one node less is refused
+    sets (setup 64 16 96 (sevens 64)) 0 262 ∷
+    sets (setup 64 16 95 (sevens 64)) 11 0 ∷
+    -- 2. 128 nodes are taken, one more is refused; so are no cell, a cell too many, no task and a task too many, the other two sizes being good
+    sets (setup 64 16 128 (sevens 64)) 0 262 ∷
+    sets (setup 64 16 129 (sevens 64)) 11 0 ∷
+    sets (setup 0 16 128 []) 11 0 ∷
+    sets (setup 65 16 128 (sevens 65)) 11 0 ∷
+    sets (setup 64 0 128 (sevens 64)) 11 0 ∷
+    sets (setup 64 17 128 (sevens 64)) 11 0 ∷
+    -- 3. one task loads 7 and stores 9
+    runs (setup 1 1 3 (7 ∷ [])) (loads 0 0 7 ++ stores 0 0 9) (10 ∷ 0 ∷ 1 ∷ 4 ∷ 0 ∷ 1 ∷ []) ∷
+    -- 5. a fresh task has no step to make, and no link to store by or to release
+    enters mended small (gives (go 0) 17 0 0 ∷ []) ∷
+    enters mended small (gives (store 0 0 9) 16 0 0 ∷ []) ∷
+    enters mended small (gives (release 0) 16 0 0 ∷ []) ∷
+    -- 6. a task linked to cell 0 of 2 may not store to cell 1, and there is no cell 2
+    enters mended (setup 2 1 4 (7 ∷ 8 ∷ [])) (loads 0 0 7 ++ gives (store 0 1 9) 18 0 0 ∷ gives (store 0 2 9) 14 0 0 ∷ []) ∷
+    -- 9. task 0 begins a load and does L1; task 1 loads, stores 9, loads and stores 11, each store ending at S4; task 0 raises, checks, copies 11
+    enters mended small
+    (gives (load 0 0) 0 0 0 ∷ moves 0 1
+    ++ loads 1 0 7 ++ stores 1 0 9 ++ loads 1 0 9 ++ stores 1 0 11
+    ++ moves 0 2 ++ gives (go 0) 1 0 11 ∷ []) ∷
+    -- in the printed order, with task 0 stalled after its copy: it raises, and the check passes and gives 7
+    enters printed small
+    (gives (load 0 0) 0 0 0 ∷ moves 0 2
+    ++ loads 1 0 7 ++ stores 1 0 9 ++ loads 1 0 9 ++ stores 1 0 11
+    ++ moves 0 1 ++ gives (go 0) 1 0 7 ∷ []) ∷
+    -- 10. both load 7; task 1 stores 9 in eight steps, and task 0's store is lost
+    enters mended small
+    (loads 0 0 7 ++ loads 1 0 7 ++ counts (3 ∷ 1 ∷ 1 ∷ 0 ∷ 0 ∷ [])
+    ∷ gives (store 1 0 9) 0 1 0 ∷ moves 1 3 ++ counts (2 ∷ 1 ∷ 1 ∷ 0 ∷ 0 ∷ [])  -- S1 to S3
+    ∷ moves 1 2 ++ counts (1 ∷ 1 ∷ 1 ∷ 0 ∷ 0 ∷ [])  -- S4 and S5
+    ∷ moves 1 2 ++ gives (go 1) 2 1 0 ∷ counts (1 ∷ 1 ∷ 1 ∷ 1 ∷ 0 ∷ [])  -- S6: nodes 1 and 2 are busy, node 3 is taken
+    ∷ gives (store 0 0 8) 0 0 0 ∷ moves 0 2 ++ gives (go 0) 3 0 0 ∷ counts (0 ∷ 1 ∷ 1 ∷ 1 ∷ 0 ∷ []) ∷ []) ∷  -- S1, S2, S7
+    -- 11. task 0 does L1; task 1 loads and stores 9; task 0 turns back once and gives 9 after 7 more steps
+    runs small (gives (load 0 0) 0 0 0 ∷ moves 0 1 ++ loads 1 0 7 ++ stores 1 0 9 ++ moves 0 6 ++ gives (go 0) 1 0 9 ∷ []) (19 ∷ 0 ∷ 2 ∷ 12 ∷ 1 ∷ 1 ∷ []) ∷
+    -- 12. task 0 loads and releases, and the counts are again those of the fresh record
+    enters mended small
+    (counts (1 ∷ 1 ∷ 1 ∷ 0 ∷ 0 ∷ [])
+    ∷ loads 0 0 7 ++ gives (release 0) 0 0 0 ∷ gives (go 0) 4 0 0 ∷ counts (1 ∷ 1 ∷ 1 ∷ 0 ∷ 0 ∷ []) ∷ []) ∷ []

@@ -1,0 +1,3 @@
+pub mod Legal
+pub mod Rows
+pub mod Faults

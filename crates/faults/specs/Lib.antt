@@ -1,0 +1,4 @@
+pub mod Bytes
+pub mod Benches
+pub mod Histories
+pub mod Schedules

@@ -1,0 +1,63 @@
+-- A schedule for each fault, from the setup `small`: one cell of value 7 at node 0, task 0 with node 1, task 1 with node 2, nodes 3 and 4 free.
+-- A number at the right counts the entries up to there; what was done by then is said of the faulty bench.
+use Prim.Native.Nat.{ℕ}
+use mathlib.Core.List.{List, [], _∷_, _++_}
+use lib.ListN.{replicate}
+use Rattle.cells.specs.declared.Machine.{Machine}
+use Rattle.cells.specs.Setup.{setupOf}
+use Rattle.tables.specs.Tables.{valueGiven}
+use Rattle.figure1.specs.Histories.{State, afterAll, start}
+use Rattle.faults.specs.Bytes.{go, load, store, small}
+use Rattle.faults.specs.Benches.{Bench}
+use Rattle.laws.specs.Acts.{valueOfCell}
+use Rattle.faults.specs.Histories.{afterwards, history}
+
+-- the fresh record, and figure 1 before any call
+abbrev pub fresh : Machine
+fresh = setupOf small .machine
+
+abbrev pub atStart : State
+atStart = start (valueGiven small)
+
+-- the cell's value after a schedule on a bench, and the value that figure 1 has after the schedule's history
+abbrev pub cellAfter : Bench → List (List ℕ) → ℕ
+cellAfter b es = valueOfCell (afterwards b fresh es) 0
+
+abbrev pub cellDue : Bench → List (List ℕ) → ℕ
+cellDue b es = afterAll atStart (history b fresh es) .cells .val 0
+
+-- The printed order. A node comes back into use between task 1's copy and its check, so that the check passes with an old copy.
+unfoldable pub oldCopy : List (List ℕ)
+oldCopy =
+    load 0 0 ∷ replicate 4 (go 0)  -- 5: task 0 has loaded 7 from node 0
+    ++ store 0 0 9 ∷ go 0  -- 7: it has begun a store and written 9 to its own node 1
+    ∷ load 1 0 ∷ go 1  -- 9: task 1 has begun a load and read the pointer, node 0
+    ∷ replicate 3 (go 0)  -- 12: task 0's store took, and its own node is node 0
+    ++ load 0 0 ∷ replicate 4 (go 0)  -- 17: it has loaded 9 from node 1
+    ++ store 0 0 11  -- 18: it has begun the next store
+    ∷ go 1  -- 19: task 1 has copied node 0, which still holds 7
+    ∷ replicate 2 (go 0)  -- 21: task 0 has written 11 to node 0 and swapped: the cell is at node 0 again
+    ++ replicate 2 (go 1)  -- 23: task 1 has raised the count and checked
+
+-- what task 1 does with what it loaded: it begins a store, S1, S2, S3, S4
+unfoldable pub itsStore : List (List ℕ)
+itsStore = store 1 0 8 ∷ replicate 4 (go 1)
+
+-- Rereading the pointer. Task 1's link is stale, but S1 takes the new node for m, so that S2 finds the cell at m.
+unfoldable pub staleLink : List (List ℕ)
+staleLink =
+    load 0 0 ∷ replicate 4 (go 0)  -- 5: task 0 has loaded 7
+    ++ load 1 0 ∷ replicate 4 (go 1)  -- 10: task 1 has loaded 7
+    ++ store 0 0 9 ∷ replicate 2 (go 0)  -- 13: task 0 has swapped: the cell is 9, at node 1, and nobody is in S
+    ++ store 1 0 8 ∷ replicate 2 (go 1)  -- 16: task 1 has read the pointer again and swapped
+    ++ replicate 3 (go 0)  -- 19: task 0 has done S3 to S5
+    ++ go 1 ∷ go 0 ∷ go 1 ∷ []  -- 22: task 1 did S3, task 0 took node 1 as its own, task 1 does S4
+
+-- Comparing values. Task 1 stores the same value again, so that task 0 can't see the change.
+unfoldable pub sameValue : List (List ℕ)
+sameValue =
+    load 0 0 ∷ replicate 4 (go 0)  -- 5: task 0 has loaded 7
+    ++ load 1 0 ∷ replicate 4 (go 1)  -- 10: task 1 has loaded 7
+    ++ store 1 0 7 ∷ replicate 2 (go 1)  -- 13: task 1 has swapped: the cell is 7, at node 2, and nobody is in S
+    ++ store 0 0 8 ∷ replicate 2 (go 0)  -- 16: task 0 has compared 7 with 7 and swapped
+    ++ go 1 ∷ go 0 ∷ go 0 ∷ []  -- 19: task 1 did S3, task 0 S3 and S4

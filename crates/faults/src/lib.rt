@@ -1,0 +1,2 @@
+// No code here: three faults of the table, each with the schedule that breaks figure 1.
+pub const VERSION: u8 = 1;

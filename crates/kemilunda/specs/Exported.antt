@@ -1,0 +1,37 @@
+-- What the exported functions give and write, by the definitions of a setup and a run.
+use Prim.Native.Nat.{ℕ}
+use mathlib.Core.List.{List, [], _∷_}
+use lib.ListN.{length, drop}
+use Rattle.cells.specs.declared.Machine.{Machine}
+use Rattle.cells.specs.declared.SetupAnswer.{SetupAnswer}
+use Rattle.cells.specs.declared.SetupAnswer.the-variants.{Ready, Refused}
+use Rattle.cells.specs.Setup.{setupOf, setupNumber, setupBytes}
+use Rattle.runs.specs.declared.Report.{Report}
+use Rattle.runs.specs.Run.{ranOf, bufferOf}
+
+-- the number of a setup's refusal, 0 for none; the bytes that it used
+abbrev pub setupRefusal : List ℕ → ℕ
+setupRefusal input = setupNumber (setupOf input .answer)
+
+abbrev pub setupUsed : List ℕ → ℕ
+setupUsed input = setupBytes (setupOf input .answer)
+
+-- a report's numbers in document 01's order
+abbrev pub sixOf : Report → List ℕ
+sixOf r = r .accepted ∷ r .refusal ∷ r .loads ∷ r .«load_steps» ∷ r .«turned_back» ∷ r .swaps ∷ []
+
+-- the reply buffer after a run of what follows the setup; as it was, where the setup is refused
+abbrev pub repliesBy : SetupAnswer → Machine → List ℕ → List ℕ → List ℕ
+repliesBy (Ready used) m input out = bufferOf m (drop used input) out
+repliesBy (Refused r) m input out = out
+
+abbrev pub repliesAfter : List ℕ → List ℕ → List ℕ
+repliesAfter input out = repliesBy (setupOf input .answer) (setupOf input .machine) input out
+
+-- the six numbers of that run; as they were, where the setup is refused
+abbrev pub numbersBy : SetupAnswer → Machine → List ℕ → ℕ → List ℕ → List ℕ
+numbersBy (Ready used) m input room old = sixOf (ranOf m (drop used input) room .report)
+numbersBy (Refused r) m input room old = old
+
+abbrev pub numbersAfter : List ℕ → ℕ → List ℕ → List ℕ
+numbersAfter input room old = numbersBy (setupOf input .answer) (setupOf input .machine) input room old

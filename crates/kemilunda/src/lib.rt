@@ -1,0 +1,60 @@
+// The library for C: numbers and slices only. The header is include/kemilunda.h.
+use cells::Machine;
+use cells::SetupAnswer;
+use runs::Report;
+ghost use mathlib.Core.Path.{_≡_};
+ghost use Prim.Native.Nat.{_≤_};
+ghost use lib.ListN.{length};
+ghost use Rattle.kemilunda.specs.Exported.{sixOf, setupRefusal, setupUsed, numbersAfter, repliesAfter};
+
+// 0 for a setup that is accepted, else its refusal.
+#[no_mangle]
+pub extern "C" fn kemilunda_setup(input: &[u8]) -> u32
+    ensures { λ r. ⌜ r ≡ setupRefusal (now (input .entry)) ⌝ }
+{
+    let s = Machine::setup(input);
+    let a = s.answer;
+    cells::setup_number(a) as u32
+}
+
+// How many bytes the setup used, 0 for a refused one: the schedule starts there.
+#[no_mangle]
+pub extern "C" fn kemilunda_setup_bytes(input: &[u8]) -> usize
+    ensures { λ r. ⌜ r ≡ setupUsed (now (input .entry)) ⌝ }
+{
+    let s = Machine::setup(input);
+    let a = s.answer;
+    cells::setup_bytes(a)
+}
+
+fn six(r: Report) -> [u32; 6]
+    ensures { λ q. ⌜ q ≡ sixOf r ⌝ }
+{
+    [
+        r.accepted,
+        r.refusal as u32,
+        r.loads,
+        r.load_steps,
+        r.turned_back,
+        r.swaps,
+    ]
+}
+
+// A setup and its schedule. A refused setup writes nothing and gives its number; else the replies and the six numbers of the run are written, and it gives 0.
+#[no_mangle]
+pub extern "C" fn kemilunda_run(input: &[u8], replies: &mut [u8], numbers: &mut [u32; 6]) -> u32
+    ensures { λ r. ⌜ (r ≡ setupRefusal (now (input .entry))) × (now (replies .exit) ≡ repliesAfter (now (input .entry)) (now (replies .entry))) × (now (numbers .exit) ≡ numbersAfter (now (input .entry)) (length (now (replies .entry))) (now (numbers .entry))) ⌝ }
+{
+    let s = Machine::setup(input);
+    let a = s.answer;
+    let m = s.machine;
+    match a {
+        SetupAnswer::Refused(r) => answers::refusal_number(r) as u32,
+        SetupAnswer::Ready(used) => {
+            let ran = runs::run(m, &input[used..], replies);
+            let report = ran.report;
+            *numbers = six(report);
+            0
+        }
+    }
+}

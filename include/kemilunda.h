@@ -1,0 +1,61 @@
+/*
+ * The proved step bench for C. Link target/staticlib/libkemilunda.a, which
+ * `rt staticlib kemilunda` makes; it needs nothing else and keeps no state.
+ *
+ * Every function takes any bytes at all. What each one gives is proved; the
+ * proofs are about the Rattle source, not about this file or the compiler.
+ */
+#ifndef KEMILUNDA_H
+#define KEMILUNDA_H
+
+#include <stddef.h>
+#include <stdint.h>
+
+#ifdef __cplusplus
+extern "C" {
+#endif
+
+/*
+ * The setup record at the front of INPUT. Gives 0 where it is accepted, else
+ * its refusal: 20 too short, 19 wrong mark, 15 the spare byte is not zero,
+ * 11 sizes out of range.
+ */
+uint32_t kemilunda_setup(const uint8_t *input, size_t input_size);
+
+/* How many bytes that setup record takes, 0 where it is refused. */
+size_t kemilunda_setup_bytes(const uint8_t *input, size_t input_size);
+
+/* Where a run's numbers stand in the last argument of kemilunda_run. */
+enum {
+    KEMILUNDA_ACCEPTED,    /* entries accepted */
+    KEMILUNDA_REFUSAL,     /* the refusal that ended the run, or 0 */
+    KEMILUNDA_LOADS,       /* loads begun */
+    KEMILUNDA_LOAD_STEPS,  /* accepted go entries in phases 1 to 5 */
+    KEMILUNDA_TURNED_BACK, /* checks that turned a load back */
+    KEMILUNDA_SWAPS,       /* swaps that took */
+    KEMILUNDA_NUMBERS
+};
+
+/*
+ * Sets a machine up from the front of INPUT and runs the entries after it.
+ *
+ * A refused setup gives its number, and REPLIES and NUMBERS are left alone.
+ * Otherwise the result is 0, NUMBERS holds the run's six numbers, and REPLIES
+ * starts with 8 bytes for each entry that was tried: 41 4E, number, task,
+ * value (4, the lowest byte first). The run stops at its first refused entry,
+ * whose reply is the last. Bytes of REPLIES after the last reply are left
+ * alone. A schedule above 65,530 bytes (23) and a reply buffer below 8 bytes
+ * for each entry, a cut one included (21), are refused before any entry: then
+ * no byte of REPLIES is written and five of the numbers are 0.
+ *
+ * INPUT, REPLIES and NUMBERS must not overlap.
+ */
+uint32_t kemilunda_run(const uint8_t *input, size_t input_size,
+                       uint8_t *replies, size_t replies_size,
+                       uint32_t numbers[KEMILUNDA_NUMBERS]);
+
+#ifdef __cplusplus
+}
+#endif
+
+#endif
