@@ -10,9 +10,8 @@ use Rattle.cells.specs.declared.Applied.{Applied}
 use Rattle.cells.specs.declared.SetupAnswer.{SetupAnswer}
 use Rattle.cells.specs.Setup.{setupOf, setupNumber, setupBytes}
 use Rattle.wire.specs.Bytes.{replyOf}
-use Rattle.runs.specs.declared.Report.{Report}
 use Rattle.runs.specs.declared.Ran.{Ran}
-use Rattle.runs.specs.Run.{ranOf, repliesOf}
+use Rattle.runs.specs.Run.{sixOf, ranOf, repliesOf}
 use Rattle.faults.specs.Bytes.{go, load, store}
 use Rattle.faults.specs.Benches.{Bench}
 
@@ -72,14 +71,10 @@ replies [] = []
 replies (gives e number p y ∷ ls) = replyOf number p y ++ replies ls
 replies (counts cs ∷ ls) = replies ls
 
--- a report's six numbers in document 01's order
-abbrev pub numbers : Report → List ℕ
-numbers r = r .accepted ∷ r .refusal ∷ r .loads ∷ r .«load_steps» ∷ r .«turned_back» ∷ r .swaps ∷ []
-
 -- a whole run on a record, with just room for the replies
 abbrev pub ranRight : Machine → List Line → List ℕ → Bool
 ranRight m ls six =
-    same (repliesOf m (schedule ls) (length (replies ls))) (replies ls) && same (numbers (ranOf m (schedule ls) (length (replies ls)) .report)) six
+    same (repliesOf m (schedule ls) (length (replies ls))) (replies ls) && same (sixOf (ranOf m (schedule ls) (length (replies ls)) .report)) six
 
 -- a row is right, and all of a table are
 abbrev pub right : Row → Bool

@@ -1,13 +1,12 @@
 -- What the exported functions give and write, by the definitions of a setup and a run.
 use Prim.Native.Nat.{ℕ}
-use mathlib.Core.List.{List, [], _∷_}
+use mathlib.Core.List.{List}
 use lib.ListN.{length, drop}
 use Rattle.cells.specs.declared.Machine.{Machine}
 use Rattle.cells.specs.declared.SetupAnswer.{SetupAnswer}
 use Rattle.cells.specs.declared.SetupAnswer.the-variants.{Ready, Refused}
 use Rattle.cells.specs.Setup.{setupOf, setupNumber, setupBytes}
-use Rattle.runs.specs.declared.Report.{Report}
-use Rattle.runs.specs.Run.{ranOf, bufferOf}
+use Rattle.runs.specs.Run.{sixOf, ranOf, bufferOf}
 
 -- the number of a setup's refusal, 0 for none; the bytes that it used
 abbrev pub setupRefusal : List ℕ → ℕ
@@ -15,10 +14,6 @@ setupRefusal input = setupNumber (setupOf input .answer)
 
 abbrev pub setupUsed : List ℕ → ℕ
 setupUsed input = setupBytes (setupOf input .answer)
-
--- a report's numbers in document 01's order
-abbrev pub sixOf : Report → List ℕ
-sixOf r = r .accepted ∷ r .refusal ∷ r .loads ∷ r .«load_steps» ∷ r .«turned_back» ∷ r .swaps ∷ []
 
 -- the reply buffer after a run of what follows the setup; as it was, where the setup is refused
 abbrev pub repliesBy : SetupAnswer → Machine → List ℕ → List ℕ → List ℕ

@@ -5,7 +5,8 @@ use runs::Report;
 ghost use mathlib.Core.Path.{_≡_};
 ghost use Prim.Native.Nat.{_≤_};
 ghost use lib.ListN.{length};
-ghost use Rattle.kemilunda.specs.Exported.{sixOf, setupRefusal, setupUsed, numbersAfter, repliesAfter};
+ghost use Rattle.runs.specs.Run.{sixOf};
+ghost use Rattle.kemilunda.specs.Exported.{setupRefusal, setupUsed, numbersAfter, repliesAfter};
 
 // 0 for a setup that is accepted, else its refusal.
 #[no_mangle]

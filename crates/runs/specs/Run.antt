@@ -36,6 +36,10 @@ repliesFrom m (e ∷ es) = replyBytes (applyOf m e) ++ cond (accepted (applyOf m
 abbrev pub reportOf : ℕ → Report
 reportOf r = record { accepted = 0; refusal = r; loads = 0; «load_steps» = 0; «turned_back» = 0; swaps = 0 }
 
+-- the six numbers in document 01's order
+abbrev pub sixOf : Report → List ℕ
+sixOf r = r .accepted ∷ r .refusal ∷ r .loads ∷ r .«load_steps» ∷ r .«turned_back» ∷ r .swaps ∷ []
+
 -- one entry more accepted, at machine m
 abbrev pub counted : Machine → List ℕ → Report → Report
 counted m e r =
