@@ -1,8 +1,8 @@
 -- What is proved, demand by demand of document 00: full statements, each proved in the file that its line cites. Nothing is assumed: a theorem
 -- takes any record and any bytes, or a setup that is accepted, or a record reached from one.
-use Prim.Native.Nat.{ℕ, _+_, _*_, _≤_, _<_}
+use Prim.Native.Nat.{ℕ, _+_, _*_, _≤_, _<_, _-_}
 use mathlib.Core.Path.{_≡_, refl}
-use mathlib.Core.Bool.{true, false}
+use mathlib.Core.Bool.{true, false, Bool}
 use mathlib.Core.List.{List, [], _∷_, _++_}
 use mathlib.Core.Logic.{_≢_}
 use lib.ListN.{length, getD, take, drop}
@@ -16,7 +16,7 @@ use Rattle.cells.specs.declared.SetupAnswer.the-variants.{Ready, Refused as Not
 use Rattle.cells.specs.Machine.{seenOf, inRange}
 use Rattle.cells.specs.Apply.{applyOf}
 use Rattle.cells.specs.Setup.{blankOf, setupOf}
-use Rattle.runs.specs.Counts.{taskOf}
+use Rattle.runs.specs.Counts.{taskOf, anywhere, loadsAt, stepsAt, turnedAt, swapsAt}
 use Rattle.runs.specs.Run.{entriesIn, entriesOf, replyBytes, repliesOf, untriedOf, ranOf, bufferOf}
 use Rattle.figure1.specs.Figure1.{Call, Result}
 use Rattle.figure1.specs.Histories.{State, Event, begins, ends, after, afterAll, Follows, start}
@@ -25,7 +25,7 @@ use Rattle.figure1.specs.Engine.{history}
 use Rattle.figure1.proofs.Lift.{follows-split}
 use Rattle.figure1.proofs.Once.{Acted, Called, finished, unfinished, in-order, cells-stay}
 use Rattle.laws.specs.Acts.{Matches, finishes, eventsOf}
-use Rattle.laws.specs.Schedules.{applied, tried, Reached}
+use Rattle.laws.specs.Schedules.{applied, tried, Reached, over}
 use Rattle.laws.proofs.Entries.{Outcome, outcome, Steps, refused-leaves}
 use Rattle.laws.proofs.Rows.{Moves, moves}
 use Rattle.laws.proofs.Start.{setup-kept, setup-blank}
@@ -33,6 +33,21 @@ use Rattle.laws.proofs.Runs.{run-damaged, run-long, run-no-room, run-tr
 use Rattle.laws.proofs.Reached.{schedule-keeps, reached-kept, Scheduled, scheduled}
 use Rattle.laws.proofs.Damage.{in-range, entry-undamaged, run-undamaged}
 use Rattle.laws.proofs.Engine.{pool, follows, matches, answered, before, entry, replies-follow}
+use lib.Dec.{T, eqb}
+use Rattle.tallies.specs.Lists.{within}
+use Rattle.tallies.specs.Tally.{tally}
+use Rattle.tasks.specs.Records.{nodeNo, noTask}
+use Rattle.tasks.specs.Holders.{heldAmong, holdersValue}
+use Rattle.laws.specs.Meaning.{points, owns, swapped, used, free}
+use Rattle.laws.specs.Solo.{Within}
+use Rattle.laws.specs.Numbers.{numbersOf, startRefusal, triedBy, overRuns, triedAll}
+use Rattle.laws.proofs.Room.{count-most, two-free}
+use Rattle.laws.proofs.Counts.{count-is}
+use Rattle.laws.proofs.Busy.{busy-most}
+use Rattle.laws.proofs.Bound.{load-bound, turned-bound}
+use Rattle.laws.proofs.Numbers.{run-starts, run-is, chain-loads, chain-steps, chain-swaps}
+use Rattle.laws.proofs.Solo.{load-solo, store-solo, store-sooner, release-solo}
+use Rattle.laws.proofs.Sharp as Sharp
 
 -- DEMAND 1. Whatever is handed over is answered or refused with a number, and a refusal changes nothing beyond what its answer takes up.
 -- (That each function returns what these definitions give, for every input, is its own contract.)
@@ -127,5 +142,90 @@ module _ (s : List ℕ) (used : ℕ) (ok : setupOf s .answer ≡ Ready used) (es
   pub run-leaves : ranOf (applied fresh es) b (length out) .machine ≡ applied (applied fresh es) (tried (applied fresh es) (entriesOf b))
   run-leaves = run-tries (applied fresh es) b (length out) (in-range (applied fresh es) (schedule-keeps es fresh (setup-kept s used ok))) h k
 
--- DEMAND 3. Load steps are bounded, and a task alone ends its call: from Bound, Solo and Room.
--- (its theorems go here)
+-- DEMAND 3. The steps of loads are bounded by the loads begun and the swaps that took; and a task that moves alone ends its call soon.
+
+-- one cell taken alone
+abbrev pub alone : ℕ → ℕ → Bool
+alone x y = eqb y x
+
+-- THE STEPS OF LOADS. Counted from the entries alone (runs/specs/Counts): loads begun, load steps, checks turned back, swaps that took.
+module _ (s : List ℕ) (bytes : ℕ) (ok : setupOf s .answer ≡ Ready bytes) where
+  abbrev pub m : Machine
+  m = setupOf s .machine
+
+  -- at most 4 for each load begun and 4 for each other task and swap, over all cells (Bound)
+  pub load-steps : (es : List (List ℕ)) → over (stepsAt anywhere) m es ≤ 4 * over (loadsAt anywhere) m es + 4 * ((m .p - 1) * over (swapsAt anywhere) m es)
+  load-steps = load-bound anywhere s bytes ok
+
+  -- and so for each cell alone, by the loads and swaps of that cell
+  pub load-steps-of : (x : ℕ) (es : List (List ℕ)) → over (stepsAt (alone x)) m es ≤ 4 * over (loadsAt (alone x)) m es + 4 * ((m .p - 1) * over (swapsAt (alone x)) m es)
+  load-steps-of x = load-bound (alone x) s bytes ok
+
+  -- a swap that took turns back at most P - 1 checks of its cell
+  pub checks-turned : (x : ℕ) (es : List (List ℕ)) → over (turnedAt (alone x)) m es ≤ (m .p - 1) * over (swapsAt (alone x)) m es
+  checks-turned x = turned-bound (alone x) s bytes ok
+
+  -- the same of what runs report: over any chain of runs from the setup, each with its bytes and its room, the reported numbers added up (Numbers)
+  pub reported-steps : (rs : List (List ℕ × ℕ))
+      → overRuns (λ r. r .«load_steps») m rs ≤ 4 * overRuns (λ r. r .loads) m rs + 4 * ((m .p - 1) * overRuns (λ r. r .swaps) m rs)
+  reported-steps rs = rw (chain-steps rs m, chain-loads rs m, chain-swaps rs m) (load-bound anywhere s bytes ok (triedAll m rs))
+
+-- the bound is met: 12 steps for 2 loads and 1 swap by one other task (Sharp)
+pub load-steps-met : (over (stepsAt anywhere) Sharp.fresh (Sharp.case11 ++ Sharp.gos 7 0) ≡ 12)
+    × (4 * over (loadsAt anywhere) Sharp.fresh (Sharp.case11 ++ Sharp.gos 7 0) + 4 * ((Sharp.fresh .p - 1) * over (swapsAt anywhere) Sharp.fresh (Sharp.case11 ++ Sharp.gos 7 0)) ≡ 12)
+load-steps-met = Sharp.bound-met
+
+-- a run's record and its six numbers are those of the entries that it tries (Numbers)
+pub run-numbers : (m : Machine) (s : List ℕ) (room : ℕ) → inRange m ≡ true → length s ≤ 65530 → 8 * entriesIn s ≤ room
+    → ranOf m s room ≡ record { machine = applied m (tried m (entriesOf s)); report = numbersOf 0 m (tried m (entriesOf s)) }
+run-numbers = run-starts
+
+-- and of any run, also one that is refused before any entry: the number and five zeros
+pub any-run-numbers : (m : Machine) (s : List ℕ) (room : ℕ)
+    → ranOf m s room ≡ record { machine = applied m (triedBy m s room); report = numbersOf (startRefusal m s room) m (triedBy m s room) }
+any-run-numbers = run-is
+
+-- A TASK ALONE. From any record reached, whatever led there, where from now on only task p makes steps (Solo).
+module _ {m : Machine} (r : Reached m) (p : ℕ) (h : p < m .p) where
+  abbrev pub phase : ℕ
+  phase = getD (m .tasks) p noTask .phase
+
+  -- its running load ends within 7 of its steps
+  pub load-ends : T (within 1 5 phase) → Within 7 m p
+  load-ends = load-solo p m (reached-kept r) h
+
+  -- its store within N + 2P + 4, and even within N + 2P + 3
+  pub store-ends : T (within 7 13 phase) → Within (m .n + 2 * m .p + 4) m p
+  store-ends = store-solo p m (reached-kept r) h
+
+  pub store-ends-sooner : T (within 7 13 phase) → Within (m .n + 2 * m .p + 3) m p
+  store-ends-sooner = store-sooner p m (reached-kept r) h
+
+  -- its release within 1
+  pub release-ends : phase ≡ 14 → Within 1 m p
+  release-ends = release-solo p m (reached-kept r) h
+
+  -- a store that looks for a node finds two free, so its search ends (Room)
+  pub room-to-store : phase ≡ 12 → 2 ≤ free m
+  room-to-store = two-free m (reached-kept r) p h
+
+-- in the records of cases 11 and 10, neither 6 steps are enough for the load nor N + 2P + 2 = 7 for the store (Sharp)
+pub load-ends-met : Within 6 (applied Sharp.fresh Sharp.case11) 0 → ⊥
+load-ends-met = Sharp.load-met
+
+pub store-ends-met : Within 7 (applied Sharp.fresh Sharp.case10) 1 → ⊥
+store-ends-met = Sharp.store-met
+
+-- THE POOL. Of every record reached: no count passes P + 1 (Room), and at most N + 2P - 1 nodes are in use (Busy), one less than K must be.
+module _ {m : Machine} (r : Reached m) where
+  pub count-limit : (i : ℕ) → i < m .k → getD (m .counts) i 0 ≤ m .p + 1
+  count-limit = count-most m (reached-kept r)
+
+  pub used-limit : used m + 1 ≤ m .n + 2 * m .p
+  used-limit = busy-most r
+
+-- WHAT A COUNT IS, for whoever asks what a node is owed: the cells, owners and holders that document 01's holders question counts (Counts).
+pub node-owed : {m : Machine} → Reached m → (i : ℕ) → i < m .k
+    → getD (m .counts) i 0
+    ≡ tally (points i) (m .n) (m .cells) + tally (owns i) (m .p) (m .tasks) + tally (swapped i) (m .p) (m .tasks) + holdersValue (heldAmong (m .tasks) (m .p) (nodeNo i))
+node-owed = count-is

@@ -13,7 +13,7 @@ pub mod Engine
 pub mod Numbers
 pub mod Bound
 pub mod Solo
+pub mod Counts
 pub mod Busy
 pub mod Sharp
 pub mod Demands
-pub mod Demand3

@@ -8,7 +8,7 @@ use native.Mathlib.Nat.{le-of-suc-le-suc, not-suc-le-zero, add-zero, add-suc, mo
 use native.Mathlib.Numerals.{add-one}
 use native.Mathlib.Omega.{arith}
 use native.Mathlib.Decide.{decLt, ℕ-discrete}
-use lib.ListN.{length, getD, set, length-set}
+use lib.ListN.{length, getD, set, take, length-set}
 use lib.Dec.{T, eqb, ltb}
 use lib.Seq.{getD-set-same, getD-set-other}
 use borrow.Author.Tests.{lt-ltb, le-ltb, eq-eqb, ne-eqb}
@@ -268,3 +268,10 @@ pub total-zero : (n : ℕ) → total (λ i. 0) n ≡ 0
 unfolding total
 total-zero zero = refl
 total-zero (suc n) = omega (arith, total-zero n)
+
+-- the first n elements are the same in the front of a list
+pub tally-take : {A : Type 0} (w : A → ℕ) (n : ℕ) (l : List A) → tally w n (take n l) ≡ tally w n l
+unfolding tally
+tally-take w zero l = refl
+tally-take w (suc n) [] = refl
+tally-take w (suc n) (x ∷ l) = ap (λ (k : ℕ). w x + k) (tally-take w n l)

@@ -1,0 +1,9 @@
+-- Any two results that a public function's contract allows are equal, and so is what a lent place holds when the function returns. Assumes nothing.
+use mathlib.Core.Path.{_≡_, sym, _∙_}
+use Rattle.contracts.specs.One.{One}
+use Rattle.runs.proofs.run.Kinds as run·k
+use Rattle.runs.proofs.run.Reads as run
+
+-- the result with its record and six numbers, and every byte of the reply buffer
+pub run-one : One run·k.ps run·k.r run.Pre run.Post
+run-one κs a z z′ ws ws′ p q q′ = (q .0 ∙ sym (q′ .0), λ i. (ws .0, (ws .1 .0, ((q .1 ∙ sym (q′ .1)) i, ws .1 .1 .1))))
