@@ -2,9 +2,8 @@
 use Prim.Native.Nat.{ℕ, _+_, _-_, _*_, _≤_, _<_, min}
 use mathlib.Core.Path.{_≡_, refl, sym, ap, _∙_, subst}
 use mathlib.Core.Bool.{Bool, true, false, cond, not}
-use mathlib.Core.List.{List, [], _∷_, _++_}
+use mathlib.Core.List.{List, [], _∷_}
 use native.Mathlib.Decide.{decLe}
-use native.Mathlib.Nat.{zero-mul}
 use native.Mathlib.Omega.{arith}
 use lib.ListN.{length, take, drop, length-append, length-drop}
 use lib.Seq.{length-take-le, take-all}
@@ -12,10 +11,10 @@ use borrow.Author.Tests.{not-true, not-false}
 use Rattle.answers.specs.Numbers.{numberOf}
 use Rattle.wire.specs.Bytes.{overlaid}
 use Rattle.cells.specs.Apply.{applyOf}
-use Rattle.runs.specs.Types.{Machine, Report, Ran, Turn}
+use Rattle.runs.specs.Types.{Machine, Report, Turn}
 use Rattle.runs.specs.Counts.{accepted, kindOf, taskOf}
 use Rattle.runs.specs.Run.{entriesIn, entriesOf, cut, counted, reportOf, refusedAt, ranFrom, replyBytes, repliesFrom}
-use Rattle.runs.specs.Turn.{Few, Going, turnOf}
+use Rattle.runs.specs.Turn.{Going, turnOf}
 use Rattle.runs.proofs.Laws.{counted-by, few-more, cut-next, cut-none, ran-on, ran-stops, ran-ends, replies-on, replies-stop, replies-end, over-none, over-more}
 
 -- the part of the bytes that a run hands on is the next entry
@@ -24,8 +23,8 @@ piece s at h =
     elim (decLe (at + 10) (length s)) [
       | yes l ↦ (let e : min (at + 10) (length s) - at ≡ 10 = omega arith in rw e)
       | no l ↦ (let e : min (at + 10) (length s) - at ≡ length s - at = omega arith in
-      let d = length-drop at s in
-      rw e (take-all (length s - at) (drop at s) (omega arith) ∙ sym (take-all 10 (drop at s) (omega arith))))
+          let d = length-drop at s in
+          rw e (take-all (length s - at) (drop at s) (omega arith) ∙ sym (take-all 10 (drop at s) (omega arith))))
     ]
 
 -- bytes laid over leave the length
@@ -100,7 +99,7 @@ module _ (s o₀ : List ℕ) (m₀ : Machine) where
             let taken = not-false (accepted (applyOf m e .answer)) (sym stopped ∙ h) in
             let t≡ : t ≡ turnOf m e r = turned ∙ ap (λ (y : List ℕ). turnOf m y r) q in
             let report : t .report ≡ counted m e r =
-              ap (λ (y : Turn). y .report) t≡ ∙ ap (λ (b : Bool). cond b (counted m e r) (refusedAt (numberOf (applyOf m e .answer)) r)) taken in
+            ap (λ (y : Turn). y .report) t≡ ∙ ap (λ (b : Bool). cond b (counted m e r) (refusedAt (numberOf (applyOf m e .answer)) r)) taken in
             let wrote-e = wrote ∙ ap (λ (y : List ℕ). overlaid o (8 * i) (replyBytes (applyOf m y))) q in
             subst (λ (y : List ℕ). Going s o₀ m₀ y (t .machine) (t .report) (i + 1)) (sym wrote-e)
             (subst (λ (k : Machine). Going s o₀ m₀ (overlaid o (8 * i) (replyBytes (applyOf m e))) k (t .report) (i + 1)) (sym (ap (λ (y : Turn). y .machine) t≡))

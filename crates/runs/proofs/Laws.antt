@@ -1,15 +1,15 @@
 -- Laws of one entry of a run and of what is left of it, over plain variables. Assumes nothing.
 use Prim.Native.Nat.{ℕ, suc, _+_, _-_, _*_, _≤_, _<_}
 use mathlib.Core.Path.{_≡_, refl, sym, ap, _∙_}
-use mathlib.Core.Bool.{Bool, true, false, and-true, _&&_}
+use mathlib.Core.Bool.{true, false, and-true, _&&_}
 use lib.Dec.{eqb}
 use Rattle.tallies.specs.Lists.{within}
 use Rattle.answers.specs.Numbers.{numberOf}
 use mathlib.Core.List.{List, [], _∷_, _++_, append-assoc, append-nil}
 use native.Mathlib.Nat.{add-zero, zero-add}
 use native.Mathlib.Omega.{arith}
-use lib.ListN.{length, take, drop, length-append, length-take, length-drop, take-append-drop}
-use lib.Seq.{drop-drop, take-at, drop-at, take-append-le, drop-append-add, length-take-le}
+use lib.ListN.{length, take, drop, length-append, take-append-drop}
+use lib.Seq.{drop-drop, take-at, drop-append-add, length-take-le}
 use Rattle.tallies.proofs.Tally.{bit-le}
 use Rattle.wire.specs.Bytes.{overlaid}
 use Rattle.cells.specs.Apply.{applyOf}
@@ -95,8 +95,8 @@ over-more o at b c h =
     let front : length (take at o ++ b) ≡ at + length b = length-append (take at o) b ∙ ap (λ (k : ℕ). k + length b) (length-take-le at o (omega arith)) in
     let sum : at + length b + length c ≡ at + (length b + length c) = omega arith in
     let rest : drop (at + length b + length c) (overlaid o at b) ≡ drop (at + (length b + length c)) o =
-      ap (λ (k : ℕ). drop (k + length c) (overlaid o at b)) (sym front) ∙ drop-append-add (take at o ++ b) (drop (at + length b) o) (length c)
-      ∙ drop-drop (length c) (at + length b) o ∙ ap (λ (k : ℕ). drop k o) sum in
+    ap (λ (k : ℕ). drop (k + length c) (overlaid o at b)) (sym front) ∙ drop-append-add (take at o ++ b) (drop (at + length b) o) (length c)
+    ∙ drop-drop (length c) (at + length b) o ∙ ap (λ (k : ℕ). drop k o) sum in
     rw (take-at (take at o ++ b) (drop (at + length b) o) (at + length b) front, rest, length-append) (simp append-assoc)
 
 pub few-le : (k n : ℕ) (r : Report) → k ≤ n → Few k r → Few n r

@@ -1,5 +1,5 @@
 -- Any two results that a public function's contract allows are equal, and so is what a lent place holds when the function returns. Assumes nothing.
-use mathlib.Core.Path.{_≡_, sym, _∙_}
+use mathlib.Core.Path.{sym, _∙_}
 use Rattle.contracts.specs.One.{One}
 use Rattle.runs.proofs.run.Kinds as run·k
 use Rattle.runs.proofs.run.Reads as run

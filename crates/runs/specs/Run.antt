@@ -1,6 +1,6 @@
 -- A run of a whole schedule from bytes: its entries, its replies and its six numbers, built on single entries.
-use Prim.Native.Nat.{ℕ, zero, suc, _+_, _*_, _/_, _%_}
-use mathlib.Core.Bool.{Bool, cond, not, _&&_}
+use Prim.Native.Nat.{ℕ, zero, suc, _+_, _*_, _/_}
+use mathlib.Core.Bool.{cond, not, _&&_}
 use mathlib.Core.List.{List, [], _∷_, _++_}
 use lib.Dec.{leb, ltb}
 use lib.ListN.{length, take, drop}
@@ -70,9 +70,9 @@ untriedOf m r = record { machine = m; report = reportOf (refusalNumber r) }
 -- a run on machine m of the bytes s, with room for `room` bytes of replies
 unfoldable pub ranOf : Machine → List ℕ → ℕ → Ran
 ranOf m s room =
-    cond (not (inRange m)) (untriedOf m Damaged)               -- 22 (ranges)
-    (cond (ltb 65530 (length s)) (untriedOf m TooLong)         -- 23
-    (cond (ltb room (8 * entriesIn s)) (untriedOf m NoRoom)    -- 21
+    cond (not (inRange m)) (untriedOf m Damaged)  -- 22 (ranges)
+    (cond (ltb 65530 (length s)) (untriedOf m TooLong)  -- 23
+    (cond (ltb room (8 * entriesIn s)) (untriedOf m NoRoom)  -- 21
     (ranFrom m (reportOf 0) (entriesOf s))))
 
 -- the replies of that run: none where no entry was tried

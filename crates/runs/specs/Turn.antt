@@ -1,7 +1,7 @@
 -- One entry of a run, as the private functions say it: what it counts for by its kind and its task's phase before (f) and after (f′).
 use Prim.Native.Nat.{ℕ, _+_, _-_, _*_, _≤_}
 use mathlib.Core.Path.{_≡_}
-use mathlib.Core.Bool.{Bool, cond, not, _&&_}
+use mathlib.Core.Bool.{cond, not, _&&_}
 use mathlib.Core.List.{List}
 use lib.Dec.{eqb}
 use Rattle.tallies.specs.Lists.{within}

@@ -1,5 +1,5 @@
 -- `fresh`: the four tables filled. Assumes nothing.
-use Prim.Native.Nat.{ℕ, _+_, min}
+use Prim.Native.Nat.{_+_, min}
 use mathlib.Core.Path.{_≡_}
 use native.Mathlib.Omega.{arith}
 use Rattle.cells.specs.Setup.{freshOf}

@@ -1,6 +1,6 @@
 -- `owners`: the tasks passed own their nodes. Assumes nothing.
 use Prim.Native.Nat.{ℕ, _≤_, _-_, _+_}
-use mathlib.Core.Path.{_≡_, ap}
+use mathlib.Core.Path.{_≡_}
 use lib.ListN.{replicate}
 use native.Mathlib.Omega.{arith}
 use Rattle.tallies.specs.Lists.{fillTo}

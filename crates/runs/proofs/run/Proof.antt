@@ -1,8 +1,9 @@
 -- `run`: the three refusals before any entry is tried, each where the ones before it did not apply; then the entries. Assumes nothing.
+use Prim.Native.Nat.{_*_, _<_}
 use mathlib.Core.Path.{sym, _∙_}
-use native.Mathlib.Omega.{arith}
+use lib.ListN.{length}
 use borrow.Author.Tests.{lt-ltb, le-ltb, le-leb, lt-leb, not-true, not-false}
-use Rattle.runs.specs.Run.{entriesOf, repliesFrom, ranOf, repliesOf, bufferOf}
+use Rattle.runs.specs.Run.{entriesIn, entriesOf, repliesFrom, ranOf, repliesOf, bufferOf}
 use Rattle.runs.proofs.Laws.{over-front}
 use borrow.Author.Needs.{needs}
 use Rattle.runs.proofs.run.Statement.{statement}
@@ -39,7 +40,9 @@ untried-requires-3 c κs = search needs
 returns-3 : tie.Need-returns-3
 unfolding ranOf repliesOf bufferOf
 returns-3 c = let sound = sym (c .before .before .before .before .in-range .ensures) ∙ not-false _ (c .before .before .before .if1 .left) in
-    (rw (c .untried3 .ensures, sound, le-ltb 65530 _ (c .before .before .if2 .left), lt-ltb _ _ (c .before .if3 .taken)), rw (sound, le-leb _ 65530 (c .before .before .if2 .left), lt-leb _ _ (c .before .if3 .taken)))
+    let a = c .before .before .before .before .before .before .before .args in
+    let short : length (a .out .now) < 8 * entriesIn (a .s .now) = c .before .if3 .taken in
+    (rw (c .untried3 .ensures, sound, le-ltb 65530 _ (c .before .before .if2 .left), lt-ltb _ _ short), rw (sound, le-leb _ 65530 (c .before .before .if2 .left), lt-leb _ _ short))
 
 run-entries-requires : tie.Need-run-entries-requires
 run-entries-requires c κs = search needs

@@ -1,17 +1,10 @@
 -- `run_entries`: what is left of the run gives the whole. Assumes nothing.
 use borrow.Author.Needs.{needs}
-use Prim.Native.Nat.{ℕ, _+_, _*_, _-_, _≤_, _<_, _/_}
-use mathlib.Core.Path.{_≡_, sym, ap, _∙_}
-use mathlib.Core.List.{List}
+use Prim.Native.Nat.{ℕ, _*_, _-_, _≤_}
+use mathlib.Core.Path.{_≡_, ap, _∙_}
 use native.Mathlib.Omega.{arith}
-use lib.ListN.{length, take, drop}
-use borrow.Author.Tests.{not-true, not-false}
-use Rattle.cells.specs.Apply.{applyOf}
-use Rattle.runs.specs.Counts.{accepted}
-use Rattle.wire.specs.Bytes.{overlaid}
-use Rattle.runs.specs.Types.{Turn}
-use Rattle.runs.specs.Run.{replyBytes}
-use Rattle.runs.specs.Turn.{Going, turnOf}
+use lib.ListN.{take, drop}
+use Rattle.runs.specs.Turn.{Going}
 use Rattle.runs.proofs.Laws.{few-le}
 use Rattle.runs.proofs.Going.{piece, starts, ends, fits, turn-stops, turn-goes-on}
 use Rattle.runs.proofs.run_entries.Statement.{statement}

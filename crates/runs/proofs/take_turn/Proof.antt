@@ -1,7 +1,5 @@
 -- `take_turn`: the reply is laid over the buffer, and the entry is counted or ends the run. Assumes nothing.
 use mathlib.Core.Path.{_∙_, sym, ap}
-use mathlib.Core.Bool.{true}
-use Rattle.answers.specs.Numbers.{numberOf, valueOf}
 use Rattle.wire.proofs.Laws.{reply-fits}
 use Rattle.runs.specs.Counts.{accepted}
 use Rattle.runs.specs.Turn.{turnOf}

@@ -1,5 +1,5 @@
 -- `step`: the phase picks the rows' function, or the refusal. Assumes nothing.
-use Prim.Native.Nat.{ℕ, _≤_}
+use Prim.Native.Nat.{_≤_}
 use native.Mathlib.Omega.{arith}
 use Rattle.tallies.proofs.Lists.{within-true}
 use Rattle.steps.specs.Table.{rows}

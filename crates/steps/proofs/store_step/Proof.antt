@@ -1,5 +1,4 @@
 -- `store_step`: rows 7 to 13 of the table. Assumes nothing.
-use Prim.Native.Nat.{ℕ}
 use mathlib.Core.Path.{_≡_}
 use native.Mathlib.Omega.{arith}
 use Rattle.tallies.proofs.Lists.{within-bounds}

@@ -1,5 +1,5 @@
 -- `give_values`: the nodes passed hold their cells' values. Assumes nothing.
-use Prim.Native.Nat.{ℕ, _≤_, _-_, min}
+use Prim.Native.Nat.{_≤_, _-_, min}
 use mathlib.Core.Path.{_≡_}
 use native.Mathlib.Omega.{arith}
 use Rattle.tallies.specs.Lists.{fillTo}

@@ -1,5 +1,4 @@
 -- `sizes_ok`: each way to the end says how the tests came out. Assumes nothing.
-use mathlib.Core.Path.{_≡_}
 use mathlib.Core.Bool.{and-false, and-true}
 use native.Mathlib.Omega.{arith}
 use borrow.Author.Tests.{le-leb, lt-leb}

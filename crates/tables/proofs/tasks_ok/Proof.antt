@@ -1,12 +1,11 @@
 -- `tasks_ok`: the records passed are in range. Assumes nothing.
-use Prim.Native.Nat.{ℕ, _≤_, _-_, min}
-use mathlib.Core.Path.{_≡_, sym, ap, _∙_}
+use Prim.Native.Nat.{_≤_, _-_, min}
+use mathlib.Core.Path.{_≡_, sym, _∙_}
 use mathlib.Core.Bool.{true}
 use native.Mathlib.Omega.{arith}
 use borrow.Author.Tests.{not-true, not-false}
 use Rattle.tallies.specs.Lists.{every}
 use Rattle.tallies.proofs.Lists.{every-none, every-more, every-false}
-use Rattle.tasks.specs.Records.{taskOk}
 use Rattle.tables.specs.Tables.{taskOkIn}
 use borrow.Author.Needs.{needs}
 use Rattle.tables.proofs.tasks_ok.Statement.{statement}

@@ -1,5 +1,4 @@
 -- `starts_with`: both bytes are compared. Assumes nothing.
-use mathlib.Core.Path.{sym, _∙_}
 use borrow.Author.Tests.{eq-eqb, ne-eqb}
 use Rattle.wire.specs.Bytes.{marked}
 use borrow.Author.Needs.{needs}

@@ -1,5 +1,4 @@
 -- `Machine::obey`: look, ask, write back. Assumes nothing.
-use mathlib.Core.Path.{_∙_}
 use Rattle.cells.specs.Apply.{obeyOf}
 use borrow.Author.Needs.{needs}
 use Rattle.cells.proofs.Machine.obey.Statement.{statement}
