@@ -10,7 +10,6 @@ use Rattle.cells.specs.declared.Applied.{Applied}
 use Rattle.cells.specs.declared.SetupAnswer.{SetupAnswer}
 use Rattle.cells.specs.Setup.{setupOf, setupNumber, setupBytes}
 use Rattle.wire.specs.Bytes.{replyOf}
-use Rattle.runs.specs.declared.Ran.{Ran}
 use Rattle.runs.specs.Run.{sixOf, ranOf, repliesOf}
 use Rattle.faults.specs.Bytes.{go, load, store}
 use Rattle.faults.specs.Benches.{Bench}

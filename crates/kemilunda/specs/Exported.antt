@@ -1,7 +1,7 @@
 -- What the exported functions give and write, by the definitions of a setup and a run.
 use Prim.Native.Nat.{ℕ}
 use mathlib.Core.List.{List}
-use lib.ListN.{length, drop}
+use lib.ListN.{drop}
 use Rattle.cells.specs.declared.Machine.{Machine}
 use Rattle.cells.specs.declared.SetupAnswer.{SetupAnswer}
 use Rattle.cells.specs.declared.SetupAnswer.the-variants.{Ready, Refused}

@@ -1,6 +1,5 @@
 -- Starting a call touches one task's record only.
-use Prim.Native.Nat.{ℕ}
-use Rattle.tasks.specs.Types.{CellNo, Task, Call, Load, Store, Release}
+use Rattle.tasks.specs.Types.{Task, Call, Load, Store, Release}
 
 -- a load sets phase 1 and x; a store sets phase 7 and Y; a release sets phase 14
 abbrev pub begunOf : Task → Call → Task

@@ -1,6 +1,6 @@
 -- The sets of phases that document 01 speaks of.
 use Prim.Native.Nat.{ℕ}
-use mathlib.Core.Bool.{Bool, true, false, not, _||_}
+use mathlib.Core.Bool.{Bool, not, _||_}
 use lib.Dec.{eqb}
 use Rattle.tallies.specs.Lists.{within}
 

@@ -1,0 +1,38 @@
+-- Any two results that a public function's contract allows are equal. Assumes nothing.
+use mathlib.Core.Path.{refl, sym, _∙_}
+use Rattle.contracts.specs.One.{One}
+use Rattle.cells.proofs.Machine.task_at.Kinds as task-at·k
+use Rattle.cells.proofs.Machine.task_at.Reads as task-at
+use Rattle.cells.proofs.Machine.in_range.Kinds as in-range·k
+use Rattle.cells.proofs.Machine.in_range.Reads as in-range
+use Rattle.cells.proofs.Machine.apply.Kinds as apply·k
+use Rattle.cells.proofs.Machine.apply.Reads as apply
+use Rattle.cells.proofs.Machine.holders.Kinds as holders·k
+use Rattle.cells.proofs.Machine.holders.Reads as holders
+use Rattle.cells.proofs.Machine.setup.Kinds as setup·k
+use Rattle.cells.proofs.Machine.setup.Reads as setup
+use Rattle.cells.proofs.setup_number.Kinds as setup-number·k
+use Rattle.cells.proofs.setup_number.Reads as setup-number
+use Rattle.cells.proofs.setup_bytes.Kinds as setup-bytes·k
+use Rattle.cells.proofs.setup_bytes.Reads as setup-bytes
+
+pub task-at-one : One task-at·k.ps task-at·k.r task-at.Pre task-at.Post
+task-at-one κs a z z′ ws ws′ p q q′ = (q ∙ sym q′, refl)
+
+pub in-range-one : One in-range·k.ps in-range·k.r in-range.Pre in-range.Post
+in-range-one κs a z z′ ws ws′ p q q′ = (q ∙ sym q′, refl)
+
+pub apply-one : One apply·k.ps apply·k.r apply.Pre apply.Post
+apply-one κs a z z′ ws ws′ p q q′ = (q ∙ sym q′, refl)
+
+pub holders-one : One holders·k.ps holders·k.r holders.Pre holders.Post
+holders-one κs a z z′ ws ws′ p q q′ = (q ∙ sym q′, refl)
+
+pub setup-one : One setup·k.ps setup·k.r setup.Pre setup.Post
+setup-one κs a z z′ ws ws′ p q q′ = (q ∙ sym q′, refl)
+
+pub setup-number-one : One setup-number·k.ps setup-number·k.r setup-number.Pre setup-number.Post
+setup-number-one κs a z z′ ws ws′ p q q′ = (q ∙ sym q′, refl)
+
+pub setup-bytes-one : One setup-bytes·k.ps setup-bytes·k.r setup-bytes.Pre setup-bytes.Post
+setup-bytes-one κs a z z′ ws ws′ p q q′ = (q ∙ sym q′, refl)
