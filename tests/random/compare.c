@@ -10,6 +10,7 @@
 
 #include "../second/bench.h"
 #include "coverage.h"
+#include "driver.h"
 #include "generate.h"
 #include "readable.h"
 
@@ -19,9 +20,7 @@
 #include <signal.h>
 #include <stdlib.h>
 #include <string.h>
-#include <sys/stat.h>
 #include <sys/wait.h>
-#include <time.h>
 #include <unistd.h>
 
 enum {
@@ -38,20 +37,6 @@ struct text {
     char bytes[MAX_TEXT + 1]; /* one more, to see a text that is too long */
     size_t length;
 };
-
-static void give_up(const char *what)
-{
-    perror(what);
-    exit(2);
-}
-
-static double seconds(void)
-{
-    struct timespec now;
-
-    clock_gettime(CLOCK_MONOTONIC, &now);
-    return (double)now.tv_sec + (double)now.tv_nsec / 1e9;
-}
 
 /* The program under test ------------------------------------------------- */
 
@@ -228,19 +213,6 @@ static size_t print_difference(const struct text *program,
     return line;
 }
 
-static void keep(const char *dir, uint64_t seed, const uint8_t *input,
-                 size_t length)
-{
-    char path[4096];
-    FILE *out;
-
-    snprintf(path, sizeof path, "%s/seed-%llu.bin", dir, (unsigned long long)seed);
-    out = fopen(path, "wb");
-    if (out == NULL || fwrite(input, 1, length, out) != length || fclose(out) != 0)
-        give_up(path);
-    printf("  input kept in %s\n", path);
-}
-
 static bool same(const struct text *a, const struct text *b)
 {
     return a->length == b->length && memcmp(a->bytes, b->bytes, a->length) == 0;
@@ -281,7 +253,7 @@ static void compare(const char *program, uint64_t seed, const char *dir,
 
     size_t line = print_difference(&first, &second);
 
-    keep(dir, seed, input, length);
+    keep_input(dir, seed, input, length);
     /* entry n is on line n+1; what comes later had no part in it */
     if (tally->differences <= FULL_LISTINGS)
         readable(stdout, input, length, line - 1);
@@ -289,15 +261,6 @@ static void compare(const char *program, uint64_t seed, const char *dir,
 }
 
 /* ------------------------------------------------------------------------ */
-
-static bool number_argument(const char *text, uint64_t *value)
-{
-    char *end;
-
-    errno = 0;
-    *value = strtoull(text, &end, 10);
-    return errno == 0 && end != text && *end == '\0' && text[0] != '-';
-}
 
 int main(int argc, char **argv)
 {
@@ -311,8 +274,7 @@ int main(int argc, char **argv)
     }
     if (access(argv[1], X_OK) != 0)
         give_up(argv[1]);
-    if (mkdir(argv[4], 0777) != 0 && errno != EEXIST)
-        give_up(argv[4]);
+    make_folder(argv[4]);
     signal(SIGPIPE, SIG_IGN); /* a program may stop reading early */
 
     double began = seconds();

@@ -1,0 +1,34 @@
+// A setup's record, whole or with one task's record replaced.
+use cells::Machine;
+use tasks::CellNo;
+use tasks::NodeNo;
+use tasks::Task;
+use tasks::TaskNo;
+
+// N 2, P 2, K 100, values 7 and 8.
+pub(crate) fn sound() -> Machine {
+    let s = [0x53u8, 0x55, 2, 2, 100, 0, 7, 0, 0, 0, 8, 0, 0, 0];
+    let a = Machine::setup(&s);
+    let m = a.machine;
+    m
+}
+
+// A task's record from plain numbers, as only a damage can make it.
+pub(crate) fn task(phase: u8, x: u8, m: u8, own: u8, cursor: u8) -> Task {
+    Task {
+        phase: phase,
+        cell: CellNo(x),
+        value: 0,
+        held: NodeNo(m),
+        own: NodeNo(own),
+        cursor: NodeNo(cursor),
+    }
+}
+
+pub(crate) fn replaced(p: TaskNo, t: Task) -> Machine {
+    let mut d = sound();
+    let ts = d.tasks;
+    let us = tables::with_task(ts, p, t);
+    d.tasks = us;
+    d
+}

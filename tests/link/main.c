@@ -1,0 +1,100 @@
+/*
+ * What a C program has to do to use the proved step bench: one header, one
+ * archive, buffers of its own.  Prints document 01's case 3 from its replies,
+ * and what becomes of a setup and of a reply buffer that are refused.
+ */
+#include <kemilunda.h>
+#include <stdio.h>
+#include <string.h>
+
+enum {
+    ENTRIES = 10,
+    REPLY = 8,
+    ROOM = REPLY * ENTRIES,
+    POOL = 4, /* where the size of the pool stands in a setup */
+    UNTOUCHED = 0xAA
+};
+
+static const uint8_t CASE_3[] = {
+    0x53, 0x55, 1, 1, 3, 0,           /* setup: 1 cell, 1 task, 3 nodes */
+    7, 0, 0, 0,                       /* cell 0 starts with 7 */
+    0x45, 0x4E, 0, 1, 0, 0, 0, 0, 0, 0, /* task 0: load cell 0 */
+    0x45, 0x4E, 0, 0, 0, 0, 0, 0, 0, 0, /* go, four times */
+    0x45, 0x4E, 0, 0, 0, 0, 0, 0, 0, 0,
+    0x45, 0x4E, 0, 0, 0, 0, 0, 0, 0, 0,
+    0x45, 0x4E, 0, 0, 0, 0, 0, 0, 0, 0,
+    0x45, 0x4E, 0, 2, 0, 0, 9, 0, 0, 0, /* store 9 to cell 0 */
+    0x45, 0x4E, 0, 0, 0, 0, 0, 0, 0, 0, /* go, four times */
+    0x45, 0x4E, 0, 0, 0, 0, 0, 0, 0, 0,
+    0x45, 0x4E, 0, 0, 0, 0, 0, 0, 0, 0,
+    0x45, 0x4E, 0, 0, 0, 0, 0, 0, 0, 0,
+};
+
+static void print_reply(const uint8_t *reply)
+{
+    unsigned long value = (unsigned long)reply[4] | (unsigned long)reply[5] << 8 |
+                          (unsigned long)reply[6] << 16 | (unsigned long)reply[7] << 24;
+
+    printf("%02X %02X: number %u, task %u, value %lu\n", reply[0], reply[1],
+           reply[2], reply[3], value);
+}
+
+static void print_numbers(const uint32_t numbers[KEMILUNDA_NUMBERS])
+{
+    printf("accepted %lu, refusal %lu, loads %lu, load steps %lu, "
+           "turned back %lu, swaps %lu\n",
+           (unsigned long)numbers[KEMILUNDA_ACCEPTED],
+           (unsigned long)numbers[KEMILUNDA_REFUSAL],
+           (unsigned long)numbers[KEMILUNDA_LOADS],
+           (unsigned long)numbers[KEMILUNDA_LOAD_STEPS],
+           (unsigned long)numbers[KEMILUNDA_TURNED_BACK],
+           (unsigned long)numbers[KEMILUNDA_SWAPS]);
+}
+
+static size_t bytes_touched(const uint8_t *replies)
+{
+    size_t touched = 0;
+
+    for (size_t i = 0; i < ROOM; i++)
+        touched += replies[i] != UNTOUCHED;
+    return touched;
+}
+
+int main(void)
+{
+    uint8_t input[sizeof CASE_3];
+    uint8_t replies[ROOM];
+    uint32_t numbers[KEMILUNDA_NUMBERS] = { 1, 2, 3, 4, 5, 6 };
+
+    memcpy(input, CASE_3, sizeof input);
+    memset(replies, UNTOUCHED, sizeof replies);
+
+    printf("case 3: setup %lu, of %zu bytes\n",
+           (unsigned long)kemilunda_setup(input, sizeof input),
+           kemilunda_setup_bytes(input, sizeof input));
+    printf("run %lu\n", (unsigned long)kemilunda_run(input, sizeof input, replies,
+                                                     sizeof replies, numbers));
+    for (size_t i = 0; i < ENTRIES; i++)
+        print_reply(replies + REPLY * i);
+    print_numbers(numbers);
+
+    /* the pool is one node short: nothing is written, the numbers stay */
+    memset(replies, UNTOUCHED, sizeof replies);
+    input[POOL] = 2;
+    printf("2 nodes: setup %lu, of %zu bytes\n",
+           (unsigned long)kemilunda_setup(input, sizeof input),
+           kemilunda_setup_bytes(input, sizeof input));
+    printf("run %lu\n", (unsigned long)kemilunda_run(input, sizeof input, replies,
+                                                     sizeof replies, numbers));
+    printf("%zu bytes of replies\n", bytes_touched(replies));
+    print_numbers(numbers);
+
+    /* the reply buffer is one byte short: the numbers say why nothing ran */
+    input[POOL] = 3;
+    printf("room for 79 bytes: run %lu\n",
+           (unsigned long)kemilunda_run(input, sizeof input, replies, ROOM - 1,
+                                        numbers));
+    printf("%zu bytes of replies\n", bytes_touched(replies));
+    print_numbers(numbers);
+    return 0;
+}
