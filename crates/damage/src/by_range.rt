@@ -2,6 +2,7 @@
 use crate::hurts;
 use crate::lines;
 use crate::shows;
+use tasks::Task;
 use tasks::TaskNo;
 
 const LOAD: u8 = 1;
@@ -30,27 +31,21 @@ pub(crate) fn sizes() {
     sized(2, 2, 129);
 }
 
-fn pointed(v: u8) {
-    lines::named(b"pointer", v as u64);
+// Cell 1 points at v, and node 50 has count c.
+fn tabled(v: u8, c: u8) {
+    lines::tables(v, c);
     let mut d = hurts::sound();
     d.cells[1] = v;
-    shows::shows(d, LOAD);
-}
-
-fn counted(c: u8) {
-    lines::named(b"count", c as u64);
-    let mut d = hurts::sound();
     d.counts[50] = c;
     shows::shows(d, LOAD);
 }
 
 pub(crate) fn tables() {
-    pointed(99);
-    pointed(100);
-    pointed(255);
-    counted(3);
-    counted(4);
-    counted(255);
+    tabled(99, 3);
+    tabled(100, 0);
+    tabled(255, 0);
+    tabled(1, 4);
+    tabled(1, 255);
 }
 
 fn recorded(phase: u8, x: u8, m: u8, own: u8, cursor: u8) {
@@ -69,12 +64,37 @@ pub(crate) fn records() {
     recorded(0, 0, 0, 2, 100);
 }
 
-// The first place past N, P and K in the tables that the range test looks at.
-pub(crate) fn unused() {
-    lines::word(b"rubbish past N, P and K");
+fn fill(table: &mut [u8], from: usize) {
+    let mut i = from;
+    while i < table.len() {
+        table[i] = 255;
+        i += 1;
+    }
+}
+
+// All but the first two records.
+fn filled(old: [Task; 16]) -> [Task; 16] {
     let t = hurts::task(255, 255, 255, 255, 255);
-    let mut d = hurts::replaced(TaskNo(2), t);
-    d.cells[2] = 255;
-    d.counts[100] = 255;
+    let mut ts = [t; 16];
+    let a = old[0];
+    let b = old[1];
+    ts[0] = a;
+    ts[1] = b;
+    ts
+}
+
+// Every place past N, P and K in the tables that the range test looks at.
+pub(crate) fn unused() {
+    io::write_all(1, b"rubbish past N, P and K");
+    let mut d = hurts::sound();
+    let mut cells = d.cells;
+    let mut counts = d.counts;
+    let tasks = d.tasks;
+    fill(&mut cells, 2);
+    fill(&mut counts, 100);
+    d.cells = cells;
+    d.counts = counts;
+    let records = filled(tasks);
+    d.tasks = records;
     shows::shows(d, LOAD);
 }

@@ -47,7 +47,7 @@ fn tried(phase: u8, n: usize)
 {
     lines::entry(n, phase);
     shows::entry(record(phase), taken(phase, n));
-    lines::word(b"\n");
+    io::write_all(1, b"\n");
 }
 
 fn after(n: usize) -> Machine
@@ -63,7 +63,7 @@ pub(crate) fn entries() {
     tried(0, 10);
     tried(0, 20);
     tried(15, 0);
-    lines::word(b"record after 20 bytes, against that after their first 10:");
+    io::write_all(1, b"record of 20 bytes, against that of their first 10:");
     lines::kept(same::same(after(20), after(10)));
-    lines::word(b"\n");
+    io::write_all(1, b"\n");
 }

@@ -2,12 +2,8 @@
 use answers::Answer;
 use runs::Report;
 
-pub(crate) fn word(text: &[u8]) {
-    io::write_all(1, text);
-}
-
 // A word, then a number.
-pub(crate) fn named(text: &[u8], n: u64) {
+fn named(text: &[u8], n: u64) {
     io::write_all(1, text);
     io::write_all(1, b" ");
     io::print_decimal(1, n);
@@ -23,6 +19,11 @@ pub(crate) fn sizes(n: u8, p: u8, k: u8) {
     named(b"N", n as u64);
     named(b" P", p as u64);
     named(b" K", k as u64);
+}
+
+pub(crate) fn tables(v: u8, c: u8) {
+    named(b"pointer", v as u64);
+    named(b" count", c as u64);
 }
 
 pub(crate) fn record(phase: u8, x: u8, m: u8, own: u8, cursor: u8) {

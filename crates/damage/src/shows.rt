@@ -50,13 +50,9 @@ pub(crate) fn two(kind: u8) -> [u8; 20]
     s
 }
 
-fn ran(m: Machine, kind: u8) {
+pub(crate) fn shows(m: Machine, kind: u8) {
+    tried(m, kind);
     let s = two(kind);
     let mut out = [0xAAu8; 16];
     run(m, &s, &mut out);
-}
-
-pub(crate) fn shows(m: Machine, kind: u8) {
-    tried(m, kind);
-    ran(m, kind);
 }

@@ -18,7 +18,7 @@ fn made(phase: u8, x: u8) -> Task {
     }
 }
 
-// The record after a call is started in it.
+// The library's bridge lends the record to `begin` and hands it back.
 fn begun(label: &[u8], t: Task, c: Call) {
     lines::record(label, tasks::lent_begin(t, c));
 }
