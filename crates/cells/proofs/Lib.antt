@@ -1,2 +1,4 @@
+pub mod Decide
+pub mod Written
 pub mod Used
 pub mod Unique

@@ -1,4 +1,5 @@
 pub mod Types
 pub mod Machine
 pub mod Apply
+pub mod Decide
 pub mod Setup

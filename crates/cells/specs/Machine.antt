@@ -7,36 +7,49 @@ use Rattle.tallies.specs.Lists.{every}
 use Rattle.tables.specs.Tables.{nodeIn, countIn, valueIn, sizesOk, cellOk, countOk, taskOkIn}
 use Rattle.cells.specs.Types.{Machine, Applied, TaskNo, Task, Seen, Write, Nothing, Point, Count, Value, Effect, Does, Refuses, Refusal, Replied, Refused}
 
--- the node of x, the counts of m and of the cursor's node, the value of m, P and K
-abbrev pub seenOf : Machine → Task → Seen
-seenOf m t =
+-- what a step of t sees: the node of x, the counts of m and of the cursor's node, the value of m, P and K
+abbrev pub seenIn : List ℕ → List ℕ → List ℕ → Task → ℕ → ℕ → Seen
+seenIn cells values counts t p k =
     record {
-      here = nodeIn (m .cells) (t .cell);
-      «held_count» = countIn (m .counts) (t .held);
-      «cursor_count» = countIn (m .counts) (t .cursor);
-      «held_value» = valueIn (m .values) (t .held);
-      tasks = m .p;
-      nodes = m .k;
+      here = nodeIn cells (t .cell);
+      «held_count» = countIn counts (t .held);
+      «cursor_count» = countIn counts (t .cursor);
+      «held_value» = valueIn values (t .held);
+      tasks = p;
+      nodes = k;
     }
 
--- each table after a write
+abbrev pub seenOf : Machine → Task → Seen
+seenOf m t = seenIn (m .cells) (m .values) (m .counts) t (m .p) (m .k)
+
+-- what a write leaves of each table, of which one takes it; `put` is how a number is put at a place
+abbrev pub cellsBy : (List ℕ → ℕ → ℕ → List ℕ) → Write → List ℕ → List ℕ
+cellsBy put Nothing l = l
+cellsBy put (Point x v) l = put l (x .0) (v .0)
+cellsBy put (Count v c) l = l
+cellsBy put (Value v y) l = l
+
+abbrev pub valuesBy : (List ℕ → ℕ → ℕ → List ℕ) → Write → List ℕ → List ℕ
+valuesBy put Nothing l = l
+valuesBy put (Point x v) l = l
+valuesBy put (Count v c) l = l
+valuesBy put (Value v y) l = put l (v .0) y
+
+abbrev pub countsBy : (List ℕ → ℕ → ℕ → List ℕ) → Write → List ℕ → List ℕ
+countsBy put Nothing l = l
+countsBy put (Point x v) l = l
+countsBy put (Count v c) l = put l (v .0) c
+countsBy put (Value v y) l = l
+
+-- each table of a machine after a write
 abbrev pub cellsAfter : Machine → Write → List ℕ
-cellsAfter m Nothing = m .cells
-cellsAfter m (Point x v) = set (m .cells) (x .0) (v .0)
-cellsAfter m (Count v c) = m .cells
-cellsAfter m (Value v y) = m .cells
+cellsAfter m w = cellsBy set w (m .cells)
 
 abbrev pub valuesAfter : Machine → Write → List ℕ
-valuesAfter m Nothing = m .values
-valuesAfter m (Point x v) = m .values
-valuesAfter m (Count v c) = m .values
-valuesAfter m (Value v y) = set (m .values) (v .0) y
+valuesAfter m w = valuesBy set w (m .values)
 
 abbrev pub countsAfter : Machine → Write → List ℕ
-countsAfter m Nothing = m .counts
-countsAfter m (Point x v) = m .counts
-countsAfter m (Count v c) = set (m .counts) (v .0) c
-countsAfter m (Value v y) = m .counts
+countsAfter m w = countsBy set w (m .counts)
 
 -- task p's record is t, the one place is written, and nothing else changes
 abbrev pub written : Machine → TaskNo → Task → Write → Machine
@@ -60,10 +73,10 @@ unfoldable pub carriedOf : Machine → TaskNo → Effect → Applied
 carriedOf m p (Refuses r) = refusedBy m (p .0) r
 carriedOf m p (Does d) = record { machine = written m p (d .task) (d .write); answer = Replied (d .reply); task = p .0 }
 
--- N, P, K inside the sizes; every pointer below K; every count at most P+1; every task's record in range
+-- N, P, K inside the sizes; every pointer below K; every count at most P+1
+abbrev pub tablesOk : ℕ → ℕ → ℕ → List ℕ → List ℕ → Bool
+tablesOk n p k cells counts = sizesOk n p k && every (cellOk cells k) n && every (countOk counts p) k
+
+-- and every task's record in range
 unfoldable pub inRange : Machine → Bool
-inRange m =
-    sizesOk (m .n) (m .p) (m .k)
-    && every (cellOk (m .cells) (m .k)) (m .n)
-    && every (countOk (m .counts) (m .p)) (m .k)
-    && every (taskOkIn (m .tasks) (m .n) (m .k)) (m .p)
+inRange m = tablesOk (m .n) (m .p) (m .k) (m .cells) (m .counts) && every (taskOkIn (m .tasks) (m .n) (m .k)) (m .p)

@@ -6,7 +6,7 @@ pub use Rattle.tasks.specs.declared.Task.{Task}
 pub use Rattle.answers.specs.declared.Answer.{Answer}
 pub use Rattle.answers.specs.declared.Answer.the-variants.{Replied, Refused}
 pub use Rattle.answers.specs.declared.Refusal.{Refusal}
-pub use Rattle.answers.specs.declared.Refusal.the-variants.{Sizes, NotZero, WrongMark, TooShort, Damaged}
+pub use Rattle.answers.specs.declared.Refusal.the-variants.{Sizes, NoTask, NotZero, WrongMark, TooShort, Damaged}
 pub use Rattle.steps.specs.declared.Seen.{Seen}
 pub use Rattle.steps.specs.declared.Write.{Write}
 pub use Rattle.steps.specs.declared.Write.the-variants.{Nothing, Point, Count, Value}
@@ -18,6 +18,7 @@ pub use Rattle.entries.specs.declared.EntryRead.{EntryRead}
 pub use Rattle.entries.specs.declared.EntryRead.the-variants.{Whole, Refused as Unread}
 pub use Rattle.cells.specs.declared.Machine.{Machine}
 pub use Rattle.cells.specs.declared.Applied.{Applied}
+pub use Rattle.cells.specs.declared.Decision.{Decision}
 pub use Rattle.cells.specs.declared.SetupAnswer.{SetupAnswer}
 pub use Rattle.cells.specs.declared.SetupAnswer.the-variants.{Ready, Refused as NotSetUp}
 pub use Rattle.cells.specs.declared.SetUp.{SetUp}

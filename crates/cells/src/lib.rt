@@ -1,7 +1,6 @@
 // The machine record: set up from bytes, one entry at a time, and the questions asked of it.
 use answers::Answer;
 use answers::Refusal;
-use entries::Entry;
 use entries::EntryRead;
 use steps::Effect;
 use steps::Seen;
@@ -22,9 +21,10 @@ ghost use lib.ListN.{replicate};
 ghost use Rattle.tallies.specs.Lists.{fillTo};
 ghost use Rattle.tasks.specs.Records.{nodeNo, noTask, idleOwning};
 ghost use Rattle.tasks.specs.Holders.{heldAmong};
-ghost use Rattle.tables.specs.Tables.{taskIn};
-ghost use Rattle.cells.specs.Machine.{seenOf, carriedOf, inRange};
-ghost use Rattle.cells.specs.Apply.{obeyOf, applyOf};
+ghost use Rattle.tables.specs.Tables.{taskIn, putIn};
+ghost use Rattle.cells.specs.Machine.{seenIn, cellsBy, valuesBy, countsBy, tablesOk, inRange};
+ghost use Rattle.cells.specs.Apply.{applyOf};
+ghost use Rattle.cells.specs.Decide.{decidedOf};
 ghost use Rattle.cells.specs.Setup.{blankOf, freshOf, refusedSetup, setupOf, setupNumber, setupBytes};
 
 // N, P and K; the node that each cell points at; each node's value and count; the task records. Places past N, P and K are never looked at.
@@ -56,6 +56,121 @@ pub struct SetUp {
     pub answer: SetupAnswer,
 }
 
+// What an entry does to its task, and the task byte of its reply.
+pub struct Decision {
+    pub task: u8,
+    pub effect: Effect,
+}
+
+// What a step of the task record t may look at, in a machine of p tasks and k nodes.
+fn seen<'a>(cells: &'a [u8], values: &'a [u32], counts: &'a [u8], t: Task, p: u8, k: u8) -> Seen
+    ensures { λ r. ⌜ r ≡ seenIn (now (cells .entry)) (now (values .entry)) (now (counts .entry)) t p k ⌝ }
+{
+    let here = node_at(cells, t.cell);
+    let held = count_at(counts, t.held);
+    let next = count_at(counts, t.cursor);
+    let value = value_at(values, t.held);
+    Seen {
+        here: here,
+        held_count: held,
+        cursor_count: next,
+        held_value: value,
+        tasks: p,
+        nodes: k,
+    }
+}
+
+// The range test (22) of all but the task records.
+fn tables_ok<'a>(n: u8, p: u8, k: u8, cells: &'a [u8], counts: &'a [u8]) -> bool
+    ensures { λ r. ⌜ r ≡ tablesOk n p k (now (cells .entry)) (now (counts .entry)) ⌝ }
+{
+    if !tables::sizes_ok(n, p, k) {
+        return false;
+    }
+    if !tables::cells_ok(cells, n, k) {
+        return false;
+    }
+    tables::counts_ok(counts, k, p)
+}
+
+// One schedule entry over lent tables; nothing is written. t is the record of its task, and `inside` says whether the task records are in range.
+pub fn decided<'a>(
+    n: u8,
+    p: u8,
+    k: u8,
+    cells: &'a [u8],
+    values: &'a [u32],
+    counts: &'a [u8],
+    t: Task,
+    inside: bool,
+    s: &'a [u8],
+) -> Decision
+    ensures { λ r. ⌜ r ≡ decidedOf n p k (now (cells .entry)) (now (values .entry)) (now (counts .entry)) t inside (now (s .entry)) ⌝ }
+{
+    if !tables_ok(n, p, k, cells, counts) {
+        return Decision {
+            task: 0,
+            effect: Effect::Refuses(Refusal::Damaged),
+        };
+    }
+    if !inside {
+        return Decision {
+            task: 0,
+            effect: Effect::Refuses(Refusal::Damaged),
+        };
+    }
+    match entries::read_entry(s) {
+        EntryRead::Refused(r) => Decision {
+            task: 0,
+            effect: Effect::Refuses(r),
+        },
+        EntryRead::Whole(e) => {
+            let q = e.task;
+            let i = q.0;
+            let effect = entries::order(n, p, e, t, seen(cells, values, counts, t, p, k));
+            Decision {
+                task: i,
+                effect: effect,
+            }
+        }
+    }
+}
+
+// A step's one write, put into the table that it belongs to; the other tables are left alone.
+
+pub fn write_cells(cells: &mut [u8; 64], w: Write)
+    ensures { λ r. ⌜ now (cells .exit) ≡ cellsBy (putIn 64) w (now (cells .entry)) ⌝ }
+{
+    match w {
+        Write::Nothing => {}
+        Write::Point(x, v) => put_node(cells, x, v),
+        Write::Count(_, _) => {}
+        Write::Value(_, _) => {}
+    }
+}
+
+pub fn write_values(values: &mut [u32; 128], w: Write)
+    ensures { λ r. ⌜ now (values .exit) ≡ valuesBy (putIn 128) w (now (values .entry)) ⌝ }
+{
+    match w {
+        Write::Nothing => {}
+        Write::Point(_, _) => {}
+        Write::Count(_, _) => {}
+        Write::Value(v, y) => put_value(values, v, y),
+    }
+}
+
+pub fn write_counts(counts: &mut [u8; 128], w: Write)
+    ensures { λ r. ⌜ now (counts .exit) ≡ countsBy (putIn 128) w (now (counts .entry)) ⌝ }
+{
+    match w {
+        Write::Nothing => {}
+        Write::Point(_, _) => {}
+        Write::Count(v, c) => put_count(counts, v, c),
+        Write::Value(_, _) => {}
+    }
+}
+
 impl Machine {
     pub fn task_at(self, p: TaskNo) -> Task
         ensures { λ r. ⌜ r ≡ taskIn (self .tasks) p ⌝ }
@@ -64,121 +179,58 @@ impl Machine {
         tables::task_at(ts, p)
     }
 
-    // What a step of the task record t may look at.
-    fn seen(self, t: Task) -> Seen
-        ensures { λ r. ⌜ r ≡ seenOf self t ⌝ }
-    {
-        let here = node_at(&self.cells, t.cell);
-        let held = count_at(&self.counts, t.held);
-        let next = count_at(&self.counts, t.cursor);
-        let value = value_at(&self.values, t.held);
-        Seen {
-            here: here,
-            held_count: held,
-            cursor_count: next,
-            held_value: value,
-            tasks: self.p,
-            nodes: self.k,
-        }
-    }
-
-    // The one place where a step is written back: task p's record and one place of one table.
-    fn carried(mut self, p: TaskNo, e: Effect) -> Applied
-        ensures { λ r. ⌜ r ≡ carriedOf self p e ⌝ }
-    {
-        let i = p.0;
-        match e {
-            Effect::Refuses(r) => Applied {
-                machine: self,
-                answer: Answer::Refused(r),
-                task: i,
-            },
-            Effect::Does(d) => {
-                let w = d.write;
-                let t = d.task;
-                let r = d.reply;
-                let a = Answer::Replied(r);
-                let old = self.tasks;
-                let next = tables::with_task(old, p, t);
-                self.tasks = next;
-                match w {
-                    Write::Nothing => Applied {
-                        machine: self,
-                        answer: a,
-                        task: i,
-                    },
-                    Write::Point(x, v) => {
-                        put_node(&mut self.cells, x, v);
-                        Applied {
-                            machine: self,
-                            answer: a,
-                            task: i,
-                        }
-                    }
-                    Write::Count(v, c) => {
-                        put_count(&mut self.counts, v, c);
-                        Applied {
-                            machine: self,
-                            answer: a,
-                            task: i,
-                        }
-                    }
-                    Write::Value(v, y) => {
-                        put_value(&mut self.values, v, y);
-                        Applied {
-                            machine: self,
-                            answer: a,
-                            task: i,
-                        }
-                    }
-                }
-            }
-        }
-    }
-
     // The range test (22).
     pub fn in_range(self) -> bool
         ensures { λ r. ⌜ r ≡ inRange self ⌝ }
     {
-        if !tables::sizes_ok(self.n, self.p, self.k) {
-            return false;
-        }
-        if !tables::cells_ok(&self.cells, self.n, self.k) {
-            return false;
-        }
-        if !tables::counts_ok(&self.counts, self.k, self.p) {
+        if !tables_ok(self.n, self.p, self.k, &self.cells, &self.counts) {
             return false;
         }
         let ts = self.tasks;
         tables::tasks_ok(ts, self.n, self.p, self.k)
     }
 
-    fn obey(self, e: Entry) -> Applied
-        ensures { λ r. ⌜ r ≡ obeyOf self e ⌝ }
-    {
-        let p = e.task;
-        let t = self.task_at(p);
-        self.carried(p, entries::order(self.n, self.p, e, t, self.seen(t)))
-    }
-
-    // One schedule entry, from its bytes. A refused entry hands the record back unchanged.
+    // One schedule entry, from its bytes: it is decided, and then written back in place. A refused entry hands the record back unchanged.
     pub fn apply(mut self, s: &[u8]) -> Applied
         ensures { λ r. ⌜ r ≡ applyOf self (now (s .entry)) ⌝ }
     {
-        if !self.in_range() {
-            return Applied {
-                machine: self,
-                answer: Answer::Refused(Refusal::Damaged),
-                task: 0,
-            };
-        }
-        match entries::read_entry(s) {
-            EntryRead::Refused(r) => Applied {
+        let j = tables::slot(TaskNo(wire::byte_at(s, 2)));
+        let t = self.tasks[j];
+        let ts = self.tasks;
+        let inside = tables::tasks_ok(ts, self.n, self.p, self.k);
+        let d = decided(
+            self.n,
+            self.p,
+            self.k,
+            &self.cells,
+            &self.values,
+            &self.counts,
+            t,
+            inside,
+            s,
+        );
+        let i = d.task;
+        let effect = d.effect;
+        match effect {
+            Effect::Refuses(r) => Applied {
                 machine: self,
                 answer: Answer::Refused(r),
-                task: 0,
+                task: i,
             },
-            EntryRead::Whole(e) => self.obey(e),
+            Effect::Does(deed) => {
+                let u = deed.task;
+                let w = deed.write;
+                let r = deed.reply;
+                self.tasks[j] = u;
+                write_cells(&mut self.cells, w);
+                write_values(&mut self.values, w);
+                write_counts(&mut self.counts, w);
+                Applied {
+                    machine: self,
+                    answer: Answer::Replied(r),
+                    task: i,
+                }
+            }
         }
     }
 

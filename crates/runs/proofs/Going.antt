@@ -1,20 +1,22 @@
 -- A run that has taken i entries takes one more, stops or ends. Assumes nothing.
 use Prim.Native.Nat.{ℕ, _+_, _-_, _*_, _≤_, _<_, min}
 use mathlib.Core.Path.{_≡_, refl, sym, ap, _∙_, subst}
-use mathlib.Core.Bool.{Bool, true, false, cond, not}
+use mathlib.Core.Bool.{Bool, true, false}
 use mathlib.Core.List.{List, [], _∷_}
 use native.Mathlib.Decide.{decLe}
 use native.Mathlib.Omega.{arith}
 use lib.ListN.{length, take, drop, length-append, length-drop}
 use lib.Seq.{length-take-le, take-all}
-use borrow.Author.Tests.{not-true, not-false}
-use Rattle.answers.specs.Numbers.{numberOf}
+use Rattle.answers.specs.Numbers.{refusalNumber, numberOf}
 use Rattle.wire.specs.Bytes.{overlaid}
+use Rattle.cells.specs.Machine.{written, refusedBy}
 use Rattle.cells.specs.Apply.{applyOf}
-use Rattle.runs.specs.Types.{Machine, Report, Turn}
+use Rattle.cells.proofs.Decide.{decisionOf, Known, applied-refuses, applied-does}
+use Rattle.runs.specs.Types.{Machine, Report, Applied, Task, Refusal, Deed, Does, Refuses, Decision}
 use Rattle.runs.specs.Counts.{accepted, kindOf, taskOf}
 use Rattle.runs.specs.Run.{entriesIn, entriesOf, cut, counted, reportOf, refusedAt, ranFrom, replyBytes, repliesFrom}
-use Rattle.runs.specs.Turn.{Going, turnOf}
+use Rattle.runs.specs.Turn.{Going, toldOf, decisionBytes}
+use Rattle.runs.proofs.Decision.{decision-bytes, decision-accepted, decision-counted}
 use Rattle.runs.proofs.Laws.{counted-by, few-more, cut-next, cut-none, ran-on, ran-stops, ran-ends, replies-on, replies-stop, replies-end, over-none, over-more}
 
 -- the part of the bytes that a run hands on is the next entry
@@ -81,26 +83,26 @@ module _ (s o₀ : List ℕ) (m₀ : Machine) where
                 ∙ over-more o (8 * i) (replyBytes (applyOf m e)) _ fits ∙ ap (overlaid o (8 * i)) (sym (replies-on m r e _ h)) ∙ (rw next at (g .replies));
           }
 
-      -- the same of what `take_turn` hands back, for the part x of the bytes that is the next entry
-      module _ (x : List ℕ) (t : Turn) (o′ : List ℕ) (q : x ≡ e) (turned : t ≡ turnOf m x r) (wrote : o′ ≡ overlaid o (8 * i) (replyBytes (applyOf m x))) where
-        stopped : t .stops ≡ not (accepted (applyOf m e .answer))
-        unfolding turnOf
-        stopped = ap (λ (y : Turn). y .stops) turned ∙ ap (λ (y : List ℕ). not (accepted (applyOf m y .answer))) q
+      -- the same of an entry that was decided, for the part x of the bytes that is the next entry
+      module _ (x : List ℕ) (q : x ≡ e) (t : Task) (inside : Bool) (known : Known m x t inside) (d : Decision) (is : d ≡ decisionOf m t inside x) (o′ : List ℕ) (r′ : Report) (kind : ℕ) (kinds : kind ≡ kindOf x) (tells : r′ ≡ toldOf r kind (t .phase) (d .effect)) (wrote : o′ ≡ overlaid o (8 * i) (decisionBytes d)) where
+        told : r′ ≡ toldOf r (kindOf x) (t .phase) (d .effect)
+        told = tells ∙ ap (λ (k : ℕ). toldOf r k (t .phase) (d .effect)) kinds
 
-        pub turn-stops : t .stops ≡ true → (record { machine = t .machine; report = t .report } ≡ ranFrom m₀ (reportOf 0) (entriesOf s)) × (o′ ≡ overlaid o₀ 0 (repliesFrom m₀ (entriesOf s)))
-        unfolding turnOf
-        turn-stops h =
-            let refused = not-true (accepted (applyOf m e .answer)) (sym stopped ∙ h) in
-            (rw (turned, q, refused) (stops refused .0), rw (wrote, q) (stops refused .1))
+        wrote-e : o′ ≡ overlaid o (8 * i) (replyBytes (applyOf m e))
+        wrote-e = wrote ∙ ap (overlaid o (8 * i)) (sym (decision-bytes m x t inside known d is) ∙ ap (λ (z : List ℕ). replyBytes (applyOf m z)) q)
 
-        pub turn-goes-on : t .stops ≡ false → Going s o₀ m₀ o′ (t .machine) (t .report) (i + 1)
-        unfolding turnOf
-        turn-goes-on h =
-            let taken = not-false (accepted (applyOf m e .answer)) (sym stopped ∙ h) in
-            let t≡ : t ≡ turnOf m e r = turned ∙ ap (λ (y : List ℕ). turnOf m y r) q in
-            let report : t .report ≡ counted m e r =
-            ap (λ (y : Turn). y .report) t≡ ∙ ap (λ (b : Bool). cond b (counted m e r) (refusedAt (numberOf (applyOf m e .answer)) r)) taken in
-            let wrote-e = wrote ∙ ap (λ (y : List ℕ). overlaid o (8 * i) (replyBytes (applyOf m y))) q in
-            subst (λ (y : List ℕ). Going s o₀ m₀ y (t .machine) (t .report) (i + 1)) (sym wrote-e)
-            (subst (λ (k : Machine). Going s o₀ m₀ (overlaid o (8 * i) (replyBytes (applyOf m e))) k (t .report) (i + 1)) (sym (ap (λ (y : Turn). y .machine) t≡))
+        pub decision-stops : (y : Refusal) → d .effect ≡ Refuses y → (record { machine = m; report = r′ } ≡ ranFrom m₀ (reportOf 0) (entriesOf s)) × (o′ ≡ overlaid o₀ 0 (repliesFrom m₀ (entriesOf s)))
+        decision-stops y h =
+            let a : applyOf m e ≡ refusedBy m (d .task) y = ap (applyOf m) (sym q) ∙ applied-refuses m x t inside known d is y h in
+            let report : r′ ≡ refusedAt (refusalNumber y) r = told ∙ ap (toldOf r (kindOf x) (t .phase)) h in
+            let w = stops (ap (λ (z : Applied). accepted (z .answer)) a) in
+            (ap (λ (k : Report). record { machine = m; report = k }) report ∙ ap (λ (z : Applied). record { machine = z .machine; report = refusedAt (numberOf (z .answer)) r }) (sym a) ∙ w .0, wrote-e ∙ w .1)
+
+        pub decision-goes-on : (y : Deed) → d .effect ≡ Does y → length (m .tasks) ≡ 16 → (m′ : Machine) → m′ ≡ written m (record { 0 = d .task }) (y .task) (y .write) → Going s o₀ m₀ o′ m′ r′ (i + 1)
+        decision-goes-on y h long m′ after =
+            let taken : accepted (applyOf m e .answer) ≡ true = ap (λ (z : List ℕ). accepted (applyOf m z .answer)) (sym q) ∙ decision-accepted m x t inside known d is y h in
+            let machine : m′ ≡ applyOf m e .machine = after ∙ ap (λ (z : Applied). z .machine) (sym (applied-does m x t inside known d is y h)) ∙ ap (λ (z : List ℕ). applyOf m z .machine) q in
+            let report : r′ ≡ counted m e r = told ∙ decision-counted m x t inside known d is y h r long ∙ ap (λ (z : List ℕ). counted m z r) q in
+            subst (λ (z : List ℕ). Going s o₀ m₀ z m′ r′ (i + 1)) (sym wrote-e)
+            (subst (λ (k : Machine). Going s o₀ m₀ (overlaid o (8 * i) (replyBytes (applyOf m e))) k r′ (i + 1)) (sym machine)
             (subst (λ (k : Report). Going s o₀ m₀ (overlaid o (8 * i) (replyBytes (applyOf m e))) (applyOf m e .machine) k (i + 1)) (sym report) (goes-on taken)))

@@ -1,3 +1,4 @@
 pub mod Laws
+pub mod Decision
 pub mod Going
 pub mod Unique

@@ -1,15 +1,15 @@
 // A whole schedule from bytes over a machine record: one reply an entry, and the six numbers.
-use answers::Answer;
 use answers::Refusal;
+use cells::Decision;
 use cells::Machine;
+use steps::Effect;
 use tasks::TaskNo;
 ghost use mathlib.Core.Path.{_≡_};
 ghost use Prim.Native.Nat.{_+_, _*_, _≤_, min};
 ghost use lib.ListN.{length};
 ghost use Rattle.wire.specs.Bytes.{overlaid};
-ghost use Rattle.cells.specs.Apply.{applyOf};
-ghost use Rattle.runs.specs.Run.{entriesIn, entriesOf, replyBytes, repliesFrom, reportOf, ranFrom, untriedOf, ranOf, bufferOf};
-ghost use Rattle.runs.specs.Turn.{loadBegun, loadStep, wentOf, countedBy, Few, turnOf};
+ghost use Rattle.runs.specs.Run.{entriesIn, entriesOf, repliesFrom, reportOf, ranFrom, untriedOf, ranOf, bufferOf};
+ghost use Rattle.runs.specs.Turn.{loadBegun, loadStep, wentOf, countedBy, Few, toldOf, decisionBytes};
 
 // Entries accepted, the refusal or 0, loads begun, load steps, turned-back checks, swaps that took: all for one run.
 pub struct Report {
@@ -24,13 +24,6 @@ pub struct Report {
 pub struct Ran {
     pub machine: Machine,
     pub report: Report,
-}
-
-// Where a run stands after an entry.
-pub struct Turn {
-    pub machine: Machine,
-    pub report: Report,
-    pub stops: bool,
 }
 
 fn no_report(refusal: u8) -> Report
@@ -98,36 +91,31 @@ fn counted(r: Report, kind: u8, from: u8, to: u8) -> Report
     }
 }
 
-// One entry of a run: its reply is written as the i-th, and it is counted or ends the run.
-fn take_turn(m: Machine, e: &[u8], out: &mut [u8], i: usize, r: Report) -> Turn
+// The i-th reply is written, and its entry is counted or ends the run. `from` is the phase that it found its task in.
+fn told(out: &mut [u8], i: usize, d: Decision, kind: u8, from: u8, r: Report) -> Report
     requires { ⌜ (8 * i + 8 ≤ length (now out)) × Few 6553 r ⌝ }
-    ensures { λ t. ⌜ (t ≡ turnOf m (now (e .entry)) r) × (now (out .exit) ≡ overlaid (now (out .entry)) (8 * i) (replyBytes (applyOf m (now (e .entry))))) ⌝ }
+    ensures { λ q. ⌜ (q ≡ toldOf r kind from (d .effect)) × (now (out .exit) ≡ overlaid (now (out .entry)) (8 * i) (decisionBytes d)) ⌝ }
 {
-    let p = TaskNo(wire::byte_at(e, 2));
-    let kind = wire::byte_at(e, 3);
-    let old = m.task_at(p);
-    let a = m.apply(e);
-    let answer = a.answer;
-    let machine = a.machine;
-    let number = answers::number(answer);
-    wire::put_reply(out, 8 * i, number, a.task, answers::value(answer));
-    match answer {
-        Answer::Refused(_) => {
+    let e = d.effect;
+    match e {
+        Effect::Refuses(x) => {
+            let number = answers::refusal_number(x);
+            wire::put_reply(out, 8 * i, number, d.task, 0);
             let mut last = r;
             last.refusal = number;
-            Turn {
-                machine: machine,
-                report: last,
-                stops: true,
-            }
+            last
         }
-        Answer::Replied(_) => {
-            let new = machine.task_at(p);
-            Turn {
-                machine: machine,
-                report: counted(r, kind, old.phase, new.phase),
-                stops: false,
-            }
+        Effect::Does(deed) => {
+            let reply = deed.reply;
+            let u = deed.task;
+            wire::put_reply(
+                out,
+                8 * i,
+                answers::reply_number(reply),
+                d.task,
+                answers::reply_value(reply),
+            );
+            counted(r, kind, from, u.phase)
         }
     }
 }
@@ -153,17 +141,41 @@ fn run_entries(m: Machine, s: &[u8], out: &mut [u8]) -> Ran
     while i < count {
         let at = 10 * i;
         let end = entry_end(at, n);
-        let t = take_turn(machine, &s[at..end], out, i, report);
-        let next = t.machine;
-        let counts = t.report;
-        if t.stops {
-            return Ran {
-                machine: next,
-                report: counts,
-            };
+        let e = &s[at..end];
+        let kind = wire::byte_at(e, 3);
+        let j = tables::slot(TaskNo(wire::byte_at(e, 2)));
+        let t = machine.tasks[j];
+        let ts = machine.tasks;
+        let inside = tables::tasks_ok(ts, machine.n, machine.p, machine.k);
+        let d = cells::decided(
+            machine.n,
+            machine.p,
+            machine.k,
+            &machine.cells,
+            &machine.values,
+            &machine.counts,
+            t,
+            inside,
+            e,
+        );
+        report = told(out, i, d, kind, t.phase, report);
+        let effect = d.effect;
+        match effect {
+            Effect::Refuses(_) => {
+                return Ran {
+                    machine: machine,
+                    report: report,
+                };
+            }
+            Effect::Does(deed) => {
+                let u = deed.task;
+                let w = deed.write;
+                machine.tasks[j] = u;
+                cells::write_cells(&mut machine.cells, w);
+                cells::write_values(&mut machine.values, w);
+                cells::write_counts(&mut machine.counts, w);
+            }
         }
-        machine = next;
-        report = counts;
         i += 1;
     }
     Ran {

@@ -4,6 +4,7 @@ use tasks::NodeNo;
 use tasks::Task;
 use tasks::TaskNo;
 ghost use mathlib.Core.Path.{_≡_};
+ghost use mathlib.Core.Bool.{cond, false};
 ghost use Prim.Native.Nat.{ℕ, min};
 ghost use lib.ListN.{set};
 ghost use Rattle.tallies.specs.Lists.{every, fillTo};
@@ -86,7 +87,21 @@ pub fn with_task(tasks: [Task; 16], p: TaskNo, t: Task) -> [Task; 16]
     ts
 }
 
-// The range test (22), table by table.
+// Where task p's record stands in a table of 16; for a task that has none, the last place.
+pub fn slot(p: TaskNo) -> usize
+    ensures { λ r. ⌜ r ≡ min (p .0) 15 ⌝ }
+{
+    let i = p.0 as usize;
+    if i < 16 { i } else { 15 }
+}
+
+// The range test (22), table by table. The loops over numbers look at every place, so that the compiler can look at many at once.
+
+fn both(a: bool, b: bool) -> bool
+    ensures { λ r. ⌜ r ≡ cond a b false ⌝ }
+{
+    if a { b } else { false }
+}
 
 pub fn sizes_ok(n: u8, p: u8, k: u8) -> bool
     ensures { λ r. ⌜ r ≡ sizesOk n p k ⌝ }
@@ -113,30 +128,30 @@ pub fn sizes_ok(n: u8, p: u8, k: u8) -> bool
 pub fn cells_ok(cells: &[u8], n: u8, k: u8) -> bool
     ensures { λ r. ⌜ r ≡ every (cellOk (now (cells .entry)) k) n ⌝ }
 {
+    let mut ok = true;
     let mut i: u8 = 0;
     while i < n {
         let v = node_at(cells, CellNo(i));
-        if k <= v.0 {
-            return false;
-        }
+        let fits = v.0 < k;
+        ok = both(fits, ok);
         i += 1;
     }
-    true
+    ok
 }
 
 pub fn counts_ok(counts: &[u8], k: u8, p: u8) -> bool
     ensures { λ r. ⌜ r ≡ every (countOk (now (counts .entry)) p) k ⌝ }
 {
     let top = p as u16 + 1;
+    let mut ok = true;
     let mut i: u8 = 0;
     while i < k {
         let c = count_at(counts, NodeNo(i));
-        if top < c as u16 {
-            return false;
-        }
+        let fits = c as u16 <= top;
+        ok = both(fits, ok);
         i += 1;
     }
-    true
+    ok
 }
 
 // Of the first p records, and of 16 at most: the table has no more.
@@ -148,7 +163,8 @@ pub fn tasks_ok(tasks: [Task; 16], n: u8, p: u8, k: u8) -> bool
         if 16 <= i {
             return true;
         }
-        let t = task_at(tasks, TaskNo(i));
+        let at = i as usize;
+        let t = tasks[at];
         if !t.in_range(n, k) {
             return false;
         }

@@ -19,6 +19,10 @@ pub every-more : (f : ℕ → Bool) (i : ℕ) → every f i ≡ true → f i ≡
 unfolding every
 every-more f i h g = rw (add-one, g) h
 
+pub every-next : (f : ℕ → Bool) (i : ℕ) → every f (i + 1) ≡ cond (f i) (every f i) false
+unfolding every
+every-next f i = rw add-one
+
 pub every-false : (f : ℕ → Bool) (n i : ℕ) → i < n → f i ≡ false → every f n ≡ false
 unfolding every
 every-false f zero i h g = absurd (omega arith)

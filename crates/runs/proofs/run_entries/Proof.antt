@@ -1,17 +1,23 @@
 -- `run_entries`: what is left of the run gives the whole. Assumes nothing.
-use borrow.Author.Needs.{needs}
-use Prim.Native.Nat.{ℕ, _*_, _-_, _≤_}
-use mathlib.Core.Path.{_≡_, ap, _∙_}
+use Prim.Native.Nat.{ℕ, _*_, _-_, _≤_, min}
+use mathlib.Core.Path.{_≡_, sym, ap, _∙_, subst}
+use mathlib.Core.List.{List}
 use native.Mathlib.Omega.{arith}
-use lib.ListN.{take, drop}
+use lib.ListN.{getD, take, drop}
+use borrow.Author.Needs.{needs}
+use Rattle.tasks.specs.Records.{noTask}
+use Rattle.tables.proofs.Laws.{length-mapped}
+use Rattle.cells.proofs.Decide.{Known, named}
+use Rattle.cells.proofs.Written.{Long, put-written, long-written}
+use Rattle.runs.specs.Types.{Machine, Task}
 use Rattle.runs.specs.Turn.{Going}
 use Rattle.runs.proofs.Laws.{few-le}
-use Rattle.runs.proofs.Going.{piece, starts, ends, fits, turn-stops, turn-goes-on}
+use Rattle.runs.proofs.Going.{piece, starts, ends, fits, decision-stops, decision-goes-on}
 use Rattle.runs.proofs.run_entries.Statement.{statement}
 use Rattle.runs.proofs.run_entries.Tie as tie
 
 abbrev Inv-loop : tie.InvT-loop
-Inv-loop s out₀ n count machine₀ report₀ i₀ out machine report i = Going s out₀ machine₀ out machine report i
+Inv-loop s out₀ n count machine₀ report₀ i₀ out machine report i = Going s out₀ machine₀ out machine report i × Long machine
 
 abbrev μ-loop : tie.MeasureT-loop
 μ-loop s out₀ n count machine₀ report₀ i₀ out machine report i = count - i
@@ -22,8 +28,11 @@ add-count c = omega arith
 no-report-requires : tie.Need-no-report-requires Inv-loop μ-loop
 no-report-requires c κs = search needs
 
+start-long : (c : tie.Start Inv-loop μ-loop) → Long (c .args .m)
+start-long c = record { cells = search needs; values = search needs; counts = search needs; tasks = search (needs, length-mapped) }
+
 loop-holds : tie.Need-loop-holds Inv-loop μ-loop
-loop-holds c = rw (c .no-report .ensures) (starts (c .before .before .before .args .s .now) (c .before .before .before .args .out .now) (c .before .before .before .args .m))
+loop-holds c = rw (c .no-report .ensures) (starts (c .before .before .before .args .s .now) (c .before .before .before .args .out .now) (c .before .before .before .args .m), start-long (c .before .before .before))
 
 mul-at : tie.Need-mul-at Inv-loop μ-loop
 mul-at c = omega (arith, c .before .before .before .before .before .pre .0)
@@ -31,54 +40,124 @@ mul-at c = omega (arith, c .before .before .before .before .before .pre .0)
 entry-end-requires : tie.Need-entry-end-requires Inv-loop μ-loop
 entry-end-requires c κs = omega (arith, c .before .before .before .before .before .pre .0)
 
-sub-take-turn : tie.Need-sub-take-turn Inv-loop μ-loop
-sub-take-turn c = omega (arith, c .entry-end .ensures)
+sub-e : tie.Need-sub-e Inv-loop μ-loop
+sub-e c = omega (arith, c .entry-end .ensures)
 
-part-take-turn-start : tie.Need-part-take-turn-start Inv-loop μ-loop
-part-take-turn-start c = omega (arith, c .entry-end .ensures)
+part-e-start : tie.Need-part-e-start Inv-loop μ-loop
+part-e-start c = omega (arith, c .entry-end .ensures)
 
-part-take-turn-end : tie.Need-part-take-turn-end Inv-loop μ-loop
-part-take-turn-end c = omega (arith, c .entry-end .ensures)
+part-e-end : tie.Need-part-e-end Inv-loop μ-loop
+part-e-end c = omega (arith, c .entry-end .ensures)
 
-take-turn-requires : tie.Need-take-turn-requires Inv-loop μ-loop
-take-turn-requires c κs = let g = c .before .before .before .before .loop .inv in
-    let a = c .before .before .before .before .before .before .before .before in
-    let small : c .before .before .before .before .loop .i ≤ 6553 = omega (arith, a .pre .0, c .before .before .before .loop-test .taken) in
-    (fits (a .args .s .now) (a .args .out .now) (a .args .m) (c .before .before .before .before .loop .out) (c .before .before .before .before .loop .machine) (c .before .before .before .before .loop .report) (c .before .before .before .before .loop .i) g (c .before .before .before .loop-test .taken) (a .pre .1), few-le (c .before .before .before .before .loop .i) 6553 (c .before .before .before .before .loop .report) small (g .few))
+byte-at-requires : tie.Need-byte-at-requires Inv-loop μ-loop
+byte-at-requires c κs = search needs
+
+byte-at-requires-2 : tie.Need-byte-at-requires-2 Inv-loop μ-loop
+byte-at-requires-2 c κs = search needs
+
+slot-requires : tie.Need-slot-requires Inv-loop μ-loop
+slot-requires c κs = search needs
+
+mul-t : tie.Need-mul-t Inv-loop μ-loop
+mul-t c = search needs
+
+element-copy-out-t : tie.Need-element-copy-out-t Inv-loop μ-loop
+element-copy-out-t c = search needs
+
+tasks-ok-requires : tie.Need-tasks-ok-requires Inv-loop μ-loop
+tasks-ok-requires c κs = search needs
+
+decided-requires : tie.Need-decided-requires Inv-loop μ-loop
+decided-requires c κs = search needs
+
+-- what is at hand when entry i of the bytes s has been decided: the part x of them, and the record found for it
+module _ (c : tie.After-decided Inv-loop μ-loop) where
+  abbrev m : Machine
+  m = c .before .before .before .before .before .before .before .before .before .before .before .before .before .before .before .before .before .loop .machine
+
+  abbrev s : List ℕ
+  s = c .before .before .before .before .before .before .before .before .before .before .before .before .before .before .before .before .before .before .before .before .before .args .s .now
+
+  abbrev i : ℕ
+  i = c .before .before .before .before .before .before .before .before .before .before .before .before .before .before .before .before .before .loop .i
+
+  abbrev x : List ℕ
+  x = take (c .before .before .before .before .before .before .before .before .before .before .before .before .before .before .before .entry-end .result - 10 * i) (drop (10 * i) s)
+
+  abbrev found : Task
+  found = getD (m .tasks) (c .before .before .before .before .before .before .before .before .before .before .before .slot .result) noTask
+
+  next : x ≡ take 10 (drop (10 * i) s)
+  next =
+      ap (λ (k : ℕ). take (k - 10 * i) (drop (10 * i) s)) (c .before .before .before .before .before .before .before .before .before .before .before .before .before .before .before .entry-end .ensures) ∙ piece s (10 * i) (omega (arith, c .before .before .before .before .before .before .before .before .before .before .before .before .before .before .before .before .before .before .before .before .before .pre .0, c .before .before .before .before .before .before .before .before .before .before .before .before .before .before .before .before .loop-test .taken))
+
+  place : c .before .before .before .before .before .before .before .before .before .before .before .slot .result ≡ min (getD x 2 0) 15
+  place = c .before .before .before .before .before .before .before .before .before .before .before .slot .ensures ∙ ap (λ (b : ℕ). min b 15) (c .before .before .before .before .before .before .before .before .before .before .before .before .byte-at2 .ensures)
+
+  known : Known m x found (c .before .before .before .before .before .before .before .before .tasks-ok .result)
+  known = record { task = ap (λ (k : ℕ). getD (m .tasks) k noTask) place; ranges = c .before .before .before .before .before .before .before .before .tasks-ok .ensures }
+
+told-requires : tie.Need-told-requires Inv-loop μ-loop
+told-requires c κs = let a = c .before .before .before .before .before .before .before .before .before .before .before .before .before .before .before .before .before .before .before .before .before .before in
+    let l = c .before .before .before .before .before .before .before .before .before .before .before .before .before .before .before .before .before .before .loop in
+    let small : l .i ≤ 6553 = omega (arith, a .pre .0, c .before .before .before .before .before .before .before .before .before .before .before .before .before .before .before .before .before .loop-test .taken) in
+    (fits (a .args .s .now) (a .args .out .now) (a .args .m) (l .out) (l .machine) (l .report) (l .i) (l .inv .0) (c .before .before .before .before .before .before .before .before .before .before .before .before .before .before .before .before .before .loop-test .taken) (a .pre .1), few-le (l .i) 6553 (l .report) small (l .inv .0 .few))
+
+enum-told : tie.Need-enum-told Inv-loop μ-loop
+enum-told c = search needs
 
 same-length : tie.Need-same-length Inv-loop μ-loop
-same-length c = c .before .before .before .before .before .take-turn .kept .1 .1 .0 ∙ c .before .before .before .before .before .before .before .before .before .before .loop .inv .long
-
--- the part that is handed on is the next entry
-next-entry : (c : tie.After-entry-end Inv-loop μ-loop)
-    → take (c .entry-end .result - 10 * c .before .before .loop .i) (drop (10 * c .before .before .loop .i) (c .before .before .before .before .before .before .args .s .now))
-    ≡ take 10 (drop (10 * c .before .before .loop .i) (c .before .before .before .before .before .before .args .s .now))
-next-entry c =
-    let s = c .before .before .before .before .before .before .args .s .now in
-    let at = 10 * c .before .before .loop .i in
-    ap (λ (k : ℕ). take (k - at) (drop at s)) (c .entry-end .ensures) ∙ piece s at (omega (arith, c .before .before .before .before .before .before .pre .0, c .before .loop-test .taken))
+same-length c = c .before .before .before .before .told .kept .0 ∙ c .before .before .before .before .before .before .before .before .before .before .before .before .before .before .before .before .before .before .before .before .before .before .before .loop .inv .0 .long
 
 returns : tie.Need-returns Inv-loop μ-loop
-returns c = let a = c .before .before .before .before .before .before .before .before .before .before .before .before .before .before in
-    let l = c .before .before .before .before .before .before .before .before .before .before .loop in
-    turn-stops (a .args .s .now) (a .args .out .now) (a .args .m) (l .out) (l .machine) (l .report) (l .i) (l .inv) (c .before .before .before .before .before .before .before .before .before .loop-test .taken) (a .pre .1) _ _ _ (next-entry (c .before .before .before .before .before .before .before .before)) (c .before .before .before .before .before .take-turn .ensures .0) (c .before .before .before .before .before .take-turn .ensures .1) (c .if1 .taken)
+returns c = let t = c .before .before .before .before in
+    let d = t .before .before in
+    let l = d .before .before .before .before .before .before .before .before .before .before .before .before .before .before .before .before .before .loop in
+    decision-stops (s d) (d .before .before .before .before .before .before .before .before .before .before .before .before .before .before .before .before .before .before .before .before .before .args .out .now) (d .before .before .before .before .before .before .before .before .before .before .before .before .before .before .before .before .before .before .before .before .before .args .m) (l .out) (m d) (l .report) (i d) (l .inv .0) (d .before .before .before .before .before .before .before .before .before .before .before .before .before .before .before .before .loop-test .taken) (d .before .before .before .before .before .before .before .before .before .before .before .before .before .before .before .before .before .before .before .before .before .pre .1)
+    (x d) (next d) (found d) _ (known d) _ (d .decided .ensures) _ _ _ (d .before .before .before .before .before .before .before .before .before .before .before .before .before .byte-at .ensures) (t .told .ensures .0) (t .told .ensures .1) _ (c .enum-told .given .1)
+
+enum-known-effect : tie.Need-enum-known-effect Inv-loop μ-loop
+enum-known-effect c = search needs
+
+mul-u : tie.Need-mul-u Inv-loop μ-loop
+mul-u c = omega (arith, c .before .before .before .before .before .before .before .before .before .before .before .before .before .before .before .before .before .before .before .slot .ensures)
+
+element-set-from-u : tie.Need-element-set-from-u Inv-loop μ-loop
+element-set-from-u c = omega (arith, c .before .before .before .before .before .before .before .before .before .before .before .before .before .before .before .before .before .before .before .slot .ensures)
+
+write-cells-requires : tie.Need-write-cells-requires Inv-loop μ-loop
+write-cells-requires c κs = search needs
+
+write-values-requires : tie.Need-write-values-requires Inv-loop μ-loop
+write-values-requires c κs = search needs
+
+write-counts-requires : tie.Need-write-counts-requires Inv-loop μ-loop
+write-counts-requires c κs = search needs
 
 add-i : tie.Need-add-i Inv-loop μ-loop
-add-i c = omega (arith, c .before .before .before .before .before .before .before .before .before .before .loop .inv .taken, c .before .before .before .before .before .before .before .before .before .before .before .before .before .before .pre .0)
+add-i c = omega (arith, c .before .before .before .before .before .before .before .before .before .before .before .before .before .before .before .before .before .before .before .before .before .before .before .before .before .before .before .before .before .before .before .loop .inv .0 .taken, c .before .before .before .before .before .before .before .before .before .before .before .before .before .before .before .before .before .before .before .before .before .before .before .before .before .before .before .before .before .before .before .before .before .before .before .pre .0)
 
 loop-less : tie.Need-loop-less Inv-loop μ-loop
-loop-less c = omega arith
+loop-less c = omega (arith, c .before .before .before .before .before .before .before .before .before .before .before .before .before .before .before .before .before .before .before .before .before .before .before .before .before .before .before .before .before .before .loop-test .taken)
 
 loop-again : tie.Need-loop-again Inv-loop μ-loop
-loop-again c = let a = c .before .before .before .before .before .before .before .before .before .before .before .before .before .before in
-    let l = c .before .before .before .before .before .before .before .before .before .before .loop in
-    turn-goes-on (a .args .s .now) (a .args .out .now) (a .args .m) (l .out) (l .machine) (l .report) (l .i) (l .inv) (c .before .before .before .before .before .before .before .before .before .loop-test .taken) (a .pre .1) _ _ _ (next-entry (c .before .before .before .before .before .before .before .before)) (c .before .before .before .before .before .take-turn .ensures .0) (c .before .before .before .before .before .take-turn .ensures .1) (c .if1 .left)
+loop-again c = let t = c .before .before .before .before .before .before .before .before .before .before .before .before in
+    let d = t .before .before in
+    let l = d .before .before .before .before .before .before .before .before .before .before .before .before .before .before .before .before .before .loop in
+    let deed = c .before .before .before .before .before .before .before .before .effect .given .0 .0 in
+    let does = c .before .before .before .before .before .before .before .before .effect .given .1 in
+    let own = place d ∙ named (m d) (x d) (found d) _ (known d) _ (d .decided .ensures) deed does .1 in
+    let after = put-written (m d) (l .inv .1) (deed .write) (deed .task) _ _ own _ _ _ (c .before .before .before .before .write-cells .ensures) (c .before .before .write-values .ensures) (c .write-counts .ensures) in (
+      decision-goes-on (s d) (d .before .before .before .before .before .before .before .before .before .before .before .before .before .before .before .before .before .before .before .before .before .args .out .now) (d .before .before .before .before .before .before .before .before .before .before .before .before .before .before .before .before .before .before .before .before .before .args .m) (l .out) (m d) (l .report) (i d) (l .inv .0) (d .before .before .before .before .before .before .before .before .before .before .before .before .before .before .before .before .loop-test .taken) (d .before .before .before .before .before .before .before .before .before .before .before .before .before .before .before .before .before .before .before .before .before .pre .1)
+          (x d) (next d) (found d) _ (known d) _ (d .decided .ensures) _ _ _ (d .before .before .before .before .before .before .before .before .before .before .before .before .before .byte-at .ensures) (t .told .ensures .0) (t .told .ensures .1) deed does (l .inv .1 .tasks) _ after,
+      subst Long (sym after) (long-written (m d) _ (deed .task) (deed .write) (l .inv .1)),
+    )
 
 same-length-2 : tie.Need-same-length-2 Inv-loop μ-loop
-same-length-2 c = c .before .loop .inv .long
+same-length-2 c = c .before .loop .inv .0 .long
 
 returns-2 : tie.Need-returns-2 Inv-loop μ-loop
-returns-2 c = ends _ _ _ _ _ _ _ (c .before .loop .inv) (c .loop-test .left)
+returns-2 c = ends _ _ _ _ _ _ _ (c .before .loop .inv .0) (c .loop-test .left)
 
 pub run-entries-spec : {M : Type 1} → statement M
 run-entries-spec =
@@ -91,12 +170,26 @@ run-entries-spec =
     loop-holds
     mul-at
     entry-end-requires
-    sub-take-turn
-    part-take-turn-start
-    part-take-turn-end
-    take-turn-requires
+    sub-e
+    part-e-start
+    part-e-end
+    byte-at-requires
+    byte-at-requires-2
+    slot-requires
+    mul-t
+    element-copy-out-t
+    tasks-ok-requires
+    decided-requires
+    told-requires
+    enum-told
     same-length
     returns
+    enum-known-effect
+    mul-u
+    element-set-from-u
+    write-cells-requires
+    write-values-requires
+    write-counts-requires
     add-i
     loop-less
     loop-again

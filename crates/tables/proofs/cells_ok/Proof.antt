@@ -1,30 +1,28 @@
--- `cells_ok`: the cells passed are in range. Assumes nothing.
+-- `cells_ok`: what is known so far is the test of the cells passed. Assumes nothing.
 use Prim.Native.Nat.{_≤_, _-_}
 use mathlib.Core.Path.{_≡_, sym}
-use mathlib.Core.Bool.{true}
 use native.Mathlib.Omega.{arith}
-use borrow.Author.Tests.{lt-ltb, le-ltb}
 use Rattle.tallies.specs.Lists.{every}
-use Rattle.tallies.proofs.Lists.{every-none, every-more, every-false}
+use Rattle.tallies.proofs.Lists.{every-none, every-next}
 use Rattle.tables.specs.Tables.{cellOk}
 use borrow.Author.Needs.{needs}
 use Rattle.tables.proofs.cells_ok.Statement.{statement}
 use Rattle.tables.proofs.cells_ok.Tie as tie
 
 abbrev Inv-loop : tie.InvT-loop
-Inv-loop cells n k i₀ i = (i ≤ n) × (every (cellOk cells k) i ≡ true)
+Inv-loop cells n k ok₀ i₀ ok i = (i ≤ n) × (ok ≡ every (cellOk cells k) i)
 
 abbrev μ-loop : tie.MeasureT-loop
-μ-loop cells n k i₀ i = n - i
+μ-loop cells n k ok₀ i₀ ok i = n - i
 
 loop-holds : tie.Need-loop-holds Inv-loop μ-loop
-loop-holds c = (omega arith, every-none _)
+loop-holds c = (omega arith, sym (every-none _))
 
 node-at-requires : tie.Need-node-at-requires Inv-loop μ-loop
 node-at-requires c κs = search needs
 
-returns : tie.Need-returns Inv-loop μ-loop
-returns c = sym (every-false _ _ (c .before .before .before .before .loop .i) (c .before .before .before .loop-test .taken) (le-ltb _ _ (rw (c .before .before .node-at .ensures) at (c .if1 .taken))))
+both-requires : tie.Need-both-requires Inv-loop μ-loop
+both-requires c κs = search needs
 
 add-i : tie.Need-add-i Inv-loop μ-loop
 add-i c = search needs
@@ -33,10 +31,10 @@ loop-less : tie.Need-loop-less Inv-loop μ-loop
 loop-less c = search needs
 
 loop-again : tie.Need-loop-again Inv-loop μ-loop
-loop-again c = (omega arith, every-more _ _ (c .before .before .before .before .loop .inv .1) (lt-ltb _ _ (rw (c .before .before .node-at .ensures) at (c .if1 .left))))
+loop-again c = (omega arith, rw (every-next, c .both .ensures, c .before .before .node-at .ensures, c .before .before .before .before .loop .inv .1))
 
-returns-2 : tie.Need-returns-2 Inv-loop μ-loop
-returns-2 c = let e : c .before .loop .i ≡ c .before .before .before .args .n = omega arith in sym (rw e at (c .before .loop .inv .1))
+returns : tie.Need-returns Inv-loop μ-loop
+returns c = let e : c .before .loop .i ≡ c .before .before .before .args .n = omega arith in (rw e at (c .before .loop .inv .1))
 
 pub cells-ok-spec : {M : Type 1} → statement M
 cells-ok-spec =
@@ -46,8 +44,8 @@ cells-ok-spec =
     μ-loop
     loop-holds
     node-at-requires
-    returns
+    both-requires
     add-i
     loop-less
     loop-again
-    returns-2)
+    returns)

@@ -12,10 +12,10 @@ use Rattle.tables.proofs.tasks_ok.Statement.{statement}
 use Rattle.tables.proofs.tasks_ok.Tie as tie
 
 abbrev Inv-loop : tie.InvT-loop
-Inv-loop tasks n p k i₀ i = ((i ≤ p) × (i ≤ 16)) × (every (taskOkIn tasks n k) i ≡ true)
+Inv-loop n p k tasks i₀ i = ((i ≤ p) × (i ≤ 16)) × (every (taskOkIn tasks n k) i ≡ true)
 
 abbrev μ-loop : tie.MeasureT-loop
-μ-loop tasks n p k i₀ i = p - i
+μ-loop n p k tasks i₀ i = p - i
 
 loop-holds : tie.Need-loop-holds Inv-loop μ-loop
 loop-holds c = (omega arith, every-none _)
@@ -23,8 +23,14 @@ loop-holds c = (omega arith, every-none _)
 returns : tie.Need-returns Inv-loop μ-loop
 returns c = let e : c .before .before .loop .i ≡ min (c .before .before .before .args .p) 16 = omega arith in sym (rw e at (c .before .before .loop .inv .1))
 
-task-at-requires : tie.Need-task-at-requires Inv-loop μ-loop
-task-at-requires c κs = search needs
+cast-at : tie.Need-cast-at Inv-loop μ-loop
+cast-at c = search needs
+
+mul-t : tie.Need-mul-t Inv-loop μ-loop
+mul-t c = search needs
+
+array-copy-out-t : tie.Need-array-copy-out-t Inv-loop μ-loop
+array-copy-out-t c = search needs
 
 in-range-requires : tie.Need-in-range-requires Inv-loop μ-loop
 in-range-requires c κs = search needs
@@ -32,7 +38,7 @@ in-range-requires c κs = search needs
 returns-2 : tie.Need-returns-2 Inv-loop μ-loop
 returns-2 c = let a = c .before .before .before .before .before .before .args in
     let l = c .before .before .before .before .before .loop in
-    sym (every-false (taskOkIn (a .tasks) (a .n) (a .k)) _ (l .i) (omega arith) (rw (← c .before .before .task-at .ensures) (sym (c .before .in-range .ensures) ∙ not-true _ (c .if2 .taken))))
+    sym (every-false (taskOkIn (a .t1) (a .n) (a .k)) _ (l .i) (omega arith) (sym (c .before .in-range .ensures) ∙ not-true _ (c .if2 .taken)))
 
 add-i : tie.Need-add-i Inv-loop μ-loop
 add-i c = search needs
@@ -43,7 +49,7 @@ loop-less c = search needs
 loop-again : tie.Need-loop-again Inv-loop μ-loop
 loop-again c = let a = c .before .before .before .before .before .before .args in
     let l = c .before .before .before .before .before .loop in
-    (omega arith, every-more (taskOkIn (a .tasks) (a .n) (a .k)) _ (l .inv .1) (rw (← c .before .before .task-at .ensures) (sym (c .before .in-range .ensures) ∙ not-false _ (c .if2 .left))))
+    (omega arith, every-more (taskOkIn (a .t1) (a .n) (a .k)) _ (l .inv .1) (sym (c .before .in-range .ensures) ∙ not-false _ (c .if2 .left)))
 
 returns-3 : tie.Need-returns-3 Inv-loop μ-loop
 returns-3 c = let e : c .before .loop .i ≡ min (c .before .before .args .p) 16 = omega arith in sym (rw e at (c .before .loop .inv .1))
@@ -56,7 +62,9 @@ tasks-ok-spec =
     μ-loop
     loop-holds
     returns
-    task-at-requires
+    cast-at
+    mul-t
+    array-copy-out-t
     in-range-requires
     returns-2
     add-i

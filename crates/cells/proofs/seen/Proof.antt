@@ -1,7 +1,7 @@
--- `Machine::seen`: the four reads. Assumes nothing.
+-- `seen`: the four reads. Assumes nothing.
 use borrow.Author.Needs.{needs}
-use Rattle.cells.proofs.Machine.seen.Statement.{statement}
-use Rattle.cells.proofs.Machine.seen.Tie as tie
+use Rattle.cells.proofs.seen.Statement.{statement}
+use Rattle.cells.proofs.seen.Tie as tie
 
 node-at-requires : tie.Need-node-at-requires
 node-at-requires c κs = search needs
@@ -16,7 +16,7 @@ value-at-requires : tie.Need-value-at-requires
 value-at-requires c κs = search needs
 
 returns : tie.Need-returns
-returns c = rw (c .value-at .ensures, c .before .before .before .before .count-at2 .ensures, c .before .before .before .before .before .before .before .before .count-at .ensures, c .before .before .before .before .before .before .before .before .before .before .before .before .node-at .ensures)
+returns c = rw (c .value-at .ensures, c .before .count-at2 .ensures, c .before .before .count-at .ensures, c .before .before .before .node-at .ensures)
 
 pub seen-spec : {M : Type 1} → statement M
 seen-spec =

@@ -1,0 +1,60 @@
+-- A task's record and the one place, written where they lie, give the machine after the step. Assumes nothing.
+use Prim.Native.Nat.{ℕ}
+use mathlib.Core.Path.{_≡_, refl, _∙_}
+use mathlib.Core.List.{List}
+use lib.ListN.{length, set, length-set}
+use Rattle.tables.specs.Tables.{putIn}
+use Rattle.tables.proofs.Laws.{put-set}
+use Rattle.cells.specs.Types.{Machine, TaskNo, Task, Write, Nothing, Point, Count, Value}
+use Rattle.cells.specs.Machine.{cellsBy, valuesBy, countsBy, cellsAfter, valuesAfter, countsAfter, written}
+
+cells-put : (m : Machine) (w : Write) → length (m .cells) ≡ 64 → cellsBy (putIn 64) w (m .cells) ≡ cellsAfter m w
+cells-put m Nothing h = refl
+cells-put m (Point x v) h = put-set 64 (m .cells) (x .0) (v .0) h
+cells-put m (Count v c) h = refl
+cells-put m (Value v y) h = refl
+
+values-put : (m : Machine) (w : Write) → length (m .values) ≡ 128 → valuesBy (putIn 128) w (m .values) ≡ valuesAfter m w
+values-put m Nothing h = refl
+values-put m (Point x v) h = refl
+values-put m (Count v c) h = refl
+values-put m (Value v y) h = put-set 128 (m .values) (v .0) y h
+
+counts-put : (m : Machine) (w : Write) → length (m .counts) ≡ 128 → countsBy (putIn 128) w (m .counts) ≡ countsAfter m w
+counts-put m Nothing h = refl
+counts-put m (Point x v) h = refl
+counts-put m (Count v c) h = put-set 128 (m .counts) (v .0) c h
+counts-put m (Value v y) h = refl
+
+-- the lengths of a machine's tables
+pub record Long (m : Machine) : Type 0 where
+  pub cells : length (m .cells) ≡ 64
+  pub values : length (m .values) ≡ 128
+  pub counts : length (m .counts) ≡ 128
+  pub tasks : length (m .tasks) ≡ 16
+
+pub put-written : (m : Machine) → Long m → (w : Write) (u : Task) (j i : ℕ) → j ≡ i → (cs vs ns : List ℕ) → cs ≡ cellsBy (putIn 64) w (m .cells) → vs ≡ valuesBy (putIn 128) w (m .values) → ns ≡ countsBy (putIn 128) w (m .counts)
+    → record { n = m .n; p = m .p; k = m .k; cells = cs; values = vs; counts = ns; tasks = set (m .tasks) j u } ≡ written m (record { 0 = i }) u w
+put-written m long w u j i e cs vs ns hc hv hn =
+    rw (hc ∙ cells-put m w (long .cells), hv ∙ values-put m w (long .values), hn ∙ counts-put m w (long .counts), e)
+
+pub long-written : (m : Machine) (p : TaskNo) (u : Task) (w : Write) → Long m → Long (written m p u w)
+long-written m p u w h = record { cells = cells w; values = values w; counts = counts w; tasks = length-set (m .tasks) (p .0) u ∙ h .tasks }
+  where
+    cells : (w : Write) → length (cellsAfter m w) ≡ 64
+    cells Nothing = h .cells
+    cells (Point x v) = length-set (m .cells) (x .0) (v .0) ∙ h .cells
+    cells (Count v c) = h .cells
+    cells (Value v y) = h .cells
+
+    values : (w : Write) → length (valuesAfter m w) ≡ 128
+    values Nothing = h .values
+    values (Point x v) = h .values
+    values (Count v c) = h .values
+    values (Value v y) = length-set (m .values) (v .0) y ∙ h .values
+
+    counts : (w : Write) → length (countsAfter m w) ≡ 128
+    counts Nothing = h .counts
+    counts (Point x v) = h .counts
+    counts (Count v c) = length-set (m .counts) (v .0) c ∙ h .counts
+    counts (Value v y) = h .counts
