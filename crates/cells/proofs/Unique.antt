@@ -1,6 +1,14 @@
--- Any two results that a public function's contract allows are equal. Assumes nothing.
+-- Any two results that a public function's contract allows are equal, and so is what a lent place holds when the function returns. Assumes nothing.
 use mathlib.Core.Path.{refl, sym, _∙_}
 use Rattle.contracts.specs.One.{One}
+use Rattle.cells.proofs.decided.Kinds as decided·k
+use Rattle.cells.proofs.decided.Reads as decided
+use Rattle.cells.proofs.write_cells.Kinds as write-cells·k
+use Rattle.cells.proofs.write_cells.Reads as write-cells
+use Rattle.cells.proofs.write_values.Kinds as write-values·k
+use Rattle.cells.proofs.write_values.Reads as write-values
+use Rattle.cells.proofs.write_counts.Kinds as write-counts·k
+use Rattle.cells.proofs.write_counts.Reads as write-counts
 use Rattle.cells.proofs.Machine.task_at.Kinds as task-at·k
 use Rattle.cells.proofs.Machine.task_at.Reads as task-at
 use Rattle.cells.proofs.Machine.in_range.Kinds as in-range·k
@@ -15,6 +23,18 @@ use Rattle.cells.proofs.setup_number.Kinds as setup-number·k
 use Rattle.cells.proofs.setup_number.Reads as setup-number
 use Rattle.cells.proofs.setup_bytes.Kinds as setup-bytes·k
 use Rattle.cells.proofs.setup_bytes.Reads as setup-bytes
+
+pub decided-one : One decided·k.ps decided·k.r decided.Pre decided.Post
+decided-one κs a z z′ ws ws′ p q q′ = (q ∙ sym q′, refl)
+
+pub write-cells-one : One write-cells·k.ps write-cells·k.r write-cells.Pre write-cells.Post
+write-cells-one κs a z z′ ws ws′ p q q′ = (refl, λ i. ((q ∙ sym q′) i, ws .1))
+
+pub write-values-one : One write-values·k.ps write-values·k.r write-values.Pre write-values.Post
+write-values-one κs a z z′ ws ws′ p q q′ = (refl, λ i. ((q ∙ sym q′) i, ws .1))
+
+pub write-counts-one : One write-counts·k.ps write-counts·k.r write-counts.Pre write-counts.Post
+write-counts-one κs a z z′ ws ws′ p q q′ = (refl, λ i. ((q ∙ sym q′) i, ws .1))
 
 pub task-at-one : One task-at·k.ps task-at·k.r task-at.Pre task-at.Post
 task-at-one κs a z z′ ws ws′ p q q′ = (q ∙ sym q′, refl)

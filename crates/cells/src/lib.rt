@@ -212,22 +212,26 @@ impl Machine {
         let i = d.task;
         let effect = d.effect;
         match effect {
-            Effect::Refuses(r) => Applied {
-                machine: self,
-                answer: Answer::Refused(r),
-                task: i,
-            },
+            Effect::Refuses(r) => {
+                let answer = Answer::Refused(r);
+                Applied {
+                    machine: self,
+                    answer: answer,
+                    task: i,
+                }
+            }
             Effect::Does(deed) => {
                 let u = deed.task;
                 let w = deed.write;
                 let r = deed.reply;
+                let answer = Answer::Replied(r);
                 self.tasks[j] = u;
                 write_cells(&mut self.cells, w);
                 write_values(&mut self.values, w);
                 write_counts(&mut self.counts, w);
                 Applied {
                     machine: self,
-                    answer: Answer::Replied(r),
+                    answer: answer,
                     task: i,
                 }
             }
@@ -269,8 +273,8 @@ fn owners(n: u8, p: u8) -> [Task; 16]
     let mut i: u8 = 0;
     while i < p {
         let u = tasks::idle_owning(NodeNo(n + i));
-        let next = tables::with_task(ts, TaskNo(i), u);
-        ts = next;
+        let j = tables::slot(TaskNo(i));
+        ts[j] = u;
         i += 1;
     }
     ts

@@ -27,8 +27,7 @@ pub(crate) fn task(phase: u8, x: u8, m: u8, own: u8, cursor: u8) -> Task {
 
 pub(crate) fn replaced(p: TaskNo, t: Task) -> Machine {
     let mut d = sound();
-    let ts = d.tasks;
-    let us = tables::with_task(ts, p, t);
-    d.tasks = us;
+    let j = tables::slot(p);
+    d.tasks[j] = t;
     d
 }

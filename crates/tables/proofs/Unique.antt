@@ -15,8 +15,8 @@ use Rattle.tables.proofs.put_count.Kinds as put-count·k
 use Rattle.tables.proofs.put_count.Reads as put-count
 use Rattle.tables.proofs.put_value.Kinds as put-value·k
 use Rattle.tables.proofs.put_value.Reads as put-value
-use Rattle.tables.proofs.with_task.Kinds as with-task·k
-use Rattle.tables.proofs.with_task.Reads as with-task
+use Rattle.tables.proofs.slot.Kinds as slot·k
+use Rattle.tables.proofs.slot.Reads as slot
 use Rattle.tables.proofs.sizes_ok.Kinds as sizes-ok·k
 use Rattle.tables.proofs.sizes_ok.Reads as sizes-ok
 use Rattle.tables.proofs.cells_ok.Kinds as cells-ok·k
@@ -53,8 +53,8 @@ put-count-one κs a z z′ ws ws′ p q q′ = (refl, λ i. ((q ∙ sym q′) i,
 pub put-value-one : One put-value·k.ps put-value·k.r put-value.Pre put-value.Post
 put-value-one κs a z z′ ws ws′ p q q′ = (refl, λ i. ((q ∙ sym q′) i, ws .1))
 
-pub with-task-one : One with-task·k.ps with-task·k.r with-task.Pre with-task.Post
-with-task-one κs a z z′ ws ws′ p q q′ = (q ∙ sym q′, refl)
+pub slot-one : One slot·k.ps slot·k.r slot.Pre slot.Post
+slot-one κs a z z′ ws ws′ p q q′ = (q ∙ sym q′, refl)
 
 pub sizes-ok-one : One sizes-ok·k.ps sizes-ok·k.r sizes-ok.Pre sizes-ok.Post
 sizes-ok-one κs a z z′ ws ws′ p q q′ = (q ∙ sym q′, refl)

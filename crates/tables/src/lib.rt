@@ -6,7 +6,6 @@ use tasks::TaskNo;
 ghost use mathlib.Core.Path.{_≡_};
 ghost use mathlib.Core.Bool.{cond, false};
 ghost use Prim.Native.Nat.{ℕ, min};
-ghost use lib.ListN.{set};
 ghost use Rattle.tallies.specs.Lists.{every, fillTo};
 ghost use Rattle.tables.specs.Tables.{nodeIn, countIn, valueIn, taskIn, putIn, sizesOk, cellOk, countOk, taskOkIn, valueGiven};
 
@@ -73,18 +72,6 @@ pub fn put_value(values: &mut [u32; 128], v: NodeNo, y: u32)
     if i < 128 {
         values[i] = y;
     }
-}
-
-// The table with task p's record replaced.
-pub fn with_task(tasks: [Task; 16], p: TaskNo, t: Task) -> [Task; 16]
-    ensures { λ r. ⌜ r ≡ set tasks (p .0) t ⌝ }
-{
-    let mut ts = tasks;
-    let i = p.0 as usize;
-    if i < 16 {
-        ts[i] = t;
-    }
-    ts
 }
 
 // Where task p's record stands in a table of 16; for a task that has none, the last place.

@@ -1,5 +1,5 @@
 -- `owners`: the tasks passed own their nodes. Assumes nothing.
-use Prim.Native.Nat.{ℕ, _≤_, _-_, _+_}
+use Prim.Native.Nat.{ℕ, _≤_, _-_, _+_, min}
 use mathlib.Core.Path.{_≡_}
 use lib.ListN.{replicate}
 use native.Mathlib.Omega.{arith}
@@ -28,8 +28,14 @@ add-t10 c = omega arith
 idle-owning-requires-2 : tie.Need-idle-owning-requires-2 Inv-loop μ-loop
 idle-owning-requires-2 c κs = search needs
 
-with-task-requires : tie.Need-with-task-requires Inv-loop μ-loop
-with-task-requires c κs = search needs
+slot-requires : tie.Need-slot-requires Inv-loop μ-loop
+slot-requires c κs = search needs
+
+mul-ts : tie.Need-mul-ts Inv-loop μ-loop
+mul-ts c = search needs
+
+array-set-from-ts : tie.Need-array-set-from-ts Inv-loop μ-loop
+array-set-from-ts c = search needs
 
 add-i : tie.Need-add-i Inv-loop μ-loop
 add-i c = search needs
@@ -38,7 +44,8 @@ loop-less : tie.Need-loop-less Inv-loop μ-loop
 loop-less c = search needs
 
 loop-again : tie.Need-loop-again Inv-loop μ-loop
-loop-again c = (omega arith, rw (c .with-task .ensures, c .before .idle-owning2 .ensures, c .before .before .before .loop .inv .1) (fill-more _ _ _))
+loop-again c = let own : min (c .before .before .before .loop .i) 15 ≡ c .before .before .before .loop .i = omega arith in
+    (omega arith, rw (c .slot .ensures, own, c .before .idle-owning2 .ensures, c .before .before .before .loop .inv .1) (fill-more _ _ _))
 
 returns : tie.Need-returns Inv-loop μ-loop
 returns c = let e : c .before .loop .i ≡ c .before .before .before .args .p = omega arith in rw e at (c .before .loop .inv .1)
@@ -53,7 +60,9 @@ owners-spec =
     loop-holds
     add-t10
     idle-owning-requires-2
-    with-task-requires
+    slot-requires
+    mul-ts
+    array-set-from-ts
     add-i
     loop-less
     loop-again
