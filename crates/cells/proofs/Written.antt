@@ -38,23 +38,30 @@ pub put-written : (m : Machine) → Long m → (w : Write) (u : Task) (j i : ℕ
 put-written m long w u j i e cs vs ns hc hv hn =
     rw (hc ∙ cells-put m w (long .cells), hv ∙ values-put m w (long .values), hn ∙ counts-put m w (long .counts), e)
 
+-- no write changes a table's length
+pub cells-after : (m : Machine) (w : Write) → length (cellsAfter m w) ≡ length (m .cells)
+cells-after m Nothing = refl
+cells-after m (Point x v) = length-set (m .cells) (x .0) (v .0)
+cells-after m (Count v c) = refl
+cells-after m (Value v y) = refl
+
+pub values-after : (m : Machine) (w : Write) → length (valuesAfter m w) ≡ length (m .values)
+values-after m Nothing = refl
+values-after m (Point x v) = refl
+values-after m (Count v c) = refl
+values-after m (Value v y) = length-set (m .values) (v .0) y
+
+pub counts-after : (m : Machine) (w : Write) → length (countsAfter m w) ≡ length (m .counts)
+counts-after m Nothing = refl
+counts-after m (Point x v) = refl
+counts-after m (Count v c) = length-set (m .counts) (v .0) c
+counts-after m (Value v y) = refl
+
 pub long-written : (m : Machine) (p : TaskNo) (u : Task) (w : Write) → Long m → Long (written m p u w)
-long-written m p u w h = record { cells = cells w; values = values w; counts = counts w; tasks = length-set (m .tasks) (p .0) u ∙ h .tasks }
-  where
-    cells : (w : Write) → length (cellsAfter m w) ≡ 64
-    cells Nothing = h .cells
-    cells (Point x v) = length-set (m .cells) (x .0) (v .0) ∙ h .cells
-    cells (Count v c) = h .cells
-    cells (Value v y) = h .cells
-
-    values : (w : Write) → length (valuesAfter m w) ≡ 128
-    values Nothing = h .values
-    values (Point x v) = h .values
-    values (Count v c) = h .values
-    values (Value v y) = length-set (m .values) (v .0) y ∙ h .values
-
-    counts : (w : Write) → length (countsAfter m w) ≡ 128
-    counts Nothing = h .counts
-    counts (Point x v) = h .counts
-    counts (Count v c) = length-set (m .counts) (v .0) c ∙ h .counts
-    counts (Value v y) = h .counts
+long-written m p u w h =
+    record {
+      cells = cells-after m w ∙ h .cells;
+      values = values-after m w ∙ h .values;
+      counts = counts-after m w ∙ h .counts;
+      tasks = length-set (m .tasks) (p .0) u ∙ h .tasks;
+    }

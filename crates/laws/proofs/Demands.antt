@@ -26,11 +26,13 @@ use Rattle.figure1.proofs.Lift.{follows-split}
 use Rattle.figure1.proofs.Once.{Acted, Called, finished, unfinished, in-order, cells-stay}
 use Rattle.laws.specs.Acts.{Matches, finishes, eventsOf}
 use Rattle.laws.specs.Schedules.{applied, tried, Reached, over}
+use Rattle.laws.specs.Beyond.{Bare, Alike, Alike-after}
 use Rattle.laws.proofs.Entries.{Outcome, outcome, Steps, refused-leaves}
 use Rattle.laws.proofs.Rows.{Moves, moves}
 use Rattle.laws.proofs.Start.{setup-kept, setup-blank}
 use Rattle.laws.proofs.Runs.{run-damaged, run-long, run-no-room, run-tries, buffer-length, buffer-past}
 use Rattle.laws.proofs.Reached.{schedule-keeps, reached-kept, Scheduled, scheduled}
+use Rattle.laws.proofs.Beyond.{reached-bare, entry-alike}
 use Rattle.laws.proofs.Damage.{in-range, entry-undamaged, run-undamaged}
 use Rattle.laws.proofs.Engine.{pool, follows, matches, answered, before, entry, replies-follow}
 use lib.Dec.{T, eqb}
@@ -76,6 +78,14 @@ refused-run m s out = (run-damaged m s out, run-long m s out, run-no-room m s ou
 pub never-damaged : {m : Machine} → Reached m
     → (inRange m ≡ true) × ((e : List ℕ) → applyOf m e .answer ≢ Refused Damaged) × ((s : List ℕ) (room : ℕ) → ranOf m s room .report .refusal ≢ 22)
 never-damaged {m} r = (in-range m (reached-kept r), entry-undamaged m (reached-kept r), λ s room. run-undamaged m s room (reached-kept r))
+
+-- past N, P and K a record reached from an accepted setup is all zero (Beyond)
+pub zero-past : {m : Machine} → Reached m → Bare m
+zero-past = reached-bare
+
+-- and no entry looks there: records that are alike below N, P and K get the same answers and stay alike (Beyond)
+pub never-looked-at : (m m′ : Machine) → Alike m m′ → (e : List ℕ) → Alike-after (applyOf m e) (applyOf m′ e)
+never-looked-at = entry-alike
 
 -- DEMAND 2. An accepted entry does the step of document 01's table and nothing else; and over every schedule from an accepted setup the cells'
 -- values and what finished calls gave are figure 1's, each call acting where the demand says (`actsFrom` in laws/specs/Acts).

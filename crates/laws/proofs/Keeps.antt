@@ -16,9 +16,10 @@ use Rattle.tasks.specs.Records.{noTask, onward, owning}
 use Rattle.tasks.specs.Phases.{holds, live, passed}
 use Rattle.tasks.specs.Holders.{keeps}
 use Rattle.steps.specs.declared.Write.{Write}
-use Rattle.steps.specs.declared.Write.the-variants.{Nothing, Point, Count, Value}
+use Rattle.steps.specs.declared.Write.the-variants.{Nothing, Count}
 use Rattle.cells.specs.declared.Machine.{Machine}
 use Rattle.cells.specs.Machine.{cellsAfter, valuesAfter, countsAfter, written}
+use Rattle.cells.proofs.Written.{cells-after, values-after, counts-after}
 use Rattle.laws.specs.Meaning.{points, claims, pointers, claimers, Apart, Ready, InRange, Kept}
 use Rattle.laws.proofs.Phases.{phase-gives}
 
@@ -32,25 +33,6 @@ owned t i l r = rw (T→true (live (t .phase)) l) (omega (arith, bit-eq (t .own 
 
 pub kept : (t : Task) (i : ℕ) → t .phase ≤ 14 → T (passed (t .phase)) → t .held .0 ≡ i → 1 ≤ keeps i t
 kept t i h k r = rw (T→true (holds (t .phase)) (phase-gives passed holds tt (t .phase) h k)) (omega (arith, bit-eq (t .held .0) i r))
-
--- no write changes a table's length
-cells-after : (m : Machine) (w : Write) → length (cellsAfter m w) ≡ length (m .cells)
-cells-after m Nothing = refl
-cells-after m (Point x v) = length-set (m .cells) (x .0) (v .0)
-cells-after m (Count v c) = refl
-cells-after m (Value v y) = refl
-
-values-after : (m : Machine) (w : Write) → length (valuesAfter m w) ≡ length (m .values)
-values-after m Nothing = refl
-values-after m (Point x v) = refl
-values-after m (Count v c) = refl
-values-after m (Value v y) = length-set (m .values) (v .0) y
-
-counts-after : (m : Machine) (w : Write) → length (countsAfter m w) ≡ length (m .counts)
-counts-after m Nothing = refl
-counts-after m (Point x v) = refl
-counts-after m (Count v c) = length-set (m .counts) (v .0) c
-counts-after m (Value v y) = refl
 
 module _ (m : Machine) (K : Kept m) where
   pub in-list : {q : ℕ} → q < m .p → q < length (m .tasks)

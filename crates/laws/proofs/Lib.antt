@@ -8,6 +8,7 @@ pub mod Table
 pub mod Start
 pub mod Runs
 pub mod Reached
+pub mod Beyond
 pub mod Follows
 pub mod Engine
 pub mod Numbers

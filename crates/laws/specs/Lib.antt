@@ -1,4 +1,5 @@
 pub mod Meaning
+pub mod Beyond
 pub mod Acts
 pub mod Schedules
 pub mod Solo

@@ -1,6 +1,7 @@
 -- Laws of `every`, `fillTo` and `within`, some of them one turn of a loop at a time. Assumes nothing.
 use Prim.Native.Nat.{ℕ, zero, suc, _+_, _<_, _≤_}
-use mathlib.Core.Path.{_≡_, refl, _∙_}
+use mathlib.Core.Path.{_≡_, refl, sym, _∙_}
+use mathlib.Core.Logic.{_≢_}
 use mathlib.Core.Bool.{Bool, true, false, cond, _&&_, false≢true}
 use mathlib.Core.List.{List}
 use lib.ListN.{length, getD, set, length-set}
@@ -74,3 +75,15 @@ pub every-true : (f : ℕ → Bool) (n : ℕ) → ((i : ℕ) → i < n → f i �
 unfolding every
 every-true f zero h = refl
 every-true f (suc n) h = rw (h n (omega arith)) (every-true f n (λ i l. h i (omega arith)))
+
+pub every-at : (f : ℕ → Bool) (n i : ℕ) → every f n ≡ true → i < n → f i ≡ true
+every-at f n i h l = known (f i) (λ g. false≢true (sym (every-false f n i l g) ∙ h))
+  where
+    known : (b : Bool) → b ≢ false → b ≡ true
+    known true h = refl
+    known false h = absurd (h refl)
+
+pub every-same : (f g : ℕ → Bool) (n : ℕ) → ((i : ℕ) → i < n → f i ≡ g i) → every f n ≡ every g n
+unfolding every
+every-same f g zero h = refl
+every-same f g (suc n) h = rw (h n (omega arith), every-same f g n (λ i l. h i (omega arith)))

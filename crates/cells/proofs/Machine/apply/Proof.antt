@@ -1,7 +1,6 @@
 -- `Machine::apply`: the entry is decided, and a deed is written where it belongs. Assumes nothing.
 use Prim.Native.Nat.{ℕ, min}
 use mathlib.Core.Path.{_≡_, sym, ap, _∙_}
-use native.Mathlib.Omega.{arith}
 use lib.ListN.{getD}
 use Rattle.tasks.specs.Records.{noTask}
 use Rattle.tables.proofs.Laws.{length-mapped}

@@ -1,0 +1,255 @@
+-- The places past N, P and K stay zero, and no entry looks at them. Assumes nothing.
+use Prim.Native.Nat.{ℕ, _+_, _≤_, _<_}
+use native.Mathlib.Omega.{arith}
+use native.Mathlib.Decide.{decLe, decLt, ℕ-discrete}
+use mathlib.Core.Path.{_≡_, refl, sym, ap, _∙_, subst}
+use mathlib.Core.Bool.{Bool, true, false, cond, not, _&&_}
+use mathlib.Core.List.{List, [], _∷_}
+use lib.Dec.{leb, ltb}
+use lib.ListN.{length, getD, set, replicate, length-set, length-replicate, getD-replicate, List·getD-eq-default}
+use lib.Seq.{getD-set-same, getD-set-other, set-out}
+use borrow.Author.Tests.{le-leb, leb-true, ltb-true}
+use Rattle.tallies.specs.Lists.{every}
+use Rattle.tallies.proofs.Lists.{both, fill-past, every-at, every-same}
+use Rattle.tasks.specs.declared.TaskNo.{TaskNo}
+use Rattle.tasks.specs.declared.Task.{Task}
+use Rattle.tasks.specs.Records.{nodeNo, noTask, idleOwning, taskOk}
+use Rattle.steps.specs.declared.Seen.{Seen}
+use Rattle.steps.specs.declared.Write.{Write}
+use Rattle.steps.specs.declared.Write.the-variants.{Nothing, Point, Count, Value}
+use Rattle.steps.specs.declared.Deed.{Deed}
+use Rattle.steps.specs.declared.Effect.{Effect}
+use Rattle.steps.specs.declared.Effect.the-variants.{Does, Refuses}
+use Rattle.tables.specs.Tables.{cellOk, countOk, taskOkIn, taskIn, valueGiven}
+use Rattle.entries.specs.declared.Entry.{Entry}
+use Rattle.entries.specs.declared.EntryRead.{EntryRead}
+use Rattle.entries.specs.declared.EntryRead.the-variants.{Whole, Refused as Unread}
+use Rattle.entries.specs.Entry.{entryOf}
+use Rattle.entries.specs.Order.{orderOf}
+use Rattle.cells.specs.declared.Machine.{Machine}
+use Rattle.cells.specs.declared.Applied.{Applied}
+use Rattle.cells.specs.Machine.{seenOf, cellsAfter, valuesAfter, countsAfter, written, carriedOf, tablesOk, inRange}
+use Rattle.cells.specs.Apply.{obeyOf, readOf, applyOf}
+use Rattle.cells.specs.Setup.{freshOf}
+use Rattle.runs.specs.Counts.{taskOf}
+use Rattle.laws.specs.Meaning.{InRange, Kept}
+use Rattle.laws.specs.Schedules.{applied, Reached}
+use Rattle.laws.specs.Beyond.{Bare, Agree, Alike, Alike-after}
+use Rattle.laws.proofs.Entries.{taskNo, by-entry}
+use Rattle.laws.proofs.Rows.{Moves, l1, l2, l3-passed, l3-turned, l4, l5, s1, s2-swapped, s2-missed, s3, s4-took, s4-shared, s5, s6-took, s6-busy, s7, r1, moves}
+use Rattle.laws.proofs.Table.{entry-keeps}
+use Rattle.laws.proofs.Start.{Sizes, by-setup, setup-kept}
+use Rattle.laws.proofs.Reached.{scheduled}
+
+-- THEY STAY ZERO
+
+all-same : {A : Type 0} (n i : ℕ) (a : A) → getD (replicate n a) i a ≡ a
+all-same n i a =
+    elim (decLt i n) [
+      | yes h ↦ getD-replicate n i a a h
+      | no h ↦ List·getD-eq-default (replicate n a) a (omega (arith, length-replicate n a))
+    ]
+
+fresh-bare : (n p k : ℕ) (s : List ℕ) → Sizes n p k → Bare (freshOf n p k s)
+unfolding freshOf
+fresh-bare n p k s z =
+    record {
+      cells = λ x h. fill-past (λ (i : ℕ). i) n (replicate 64 0) x 0 h ∙ all-same 64 x 0;
+      values = λ i h. fill-past (valueGiven s) n (replicate 128 0) i 0 (omega (arith, z .room)) ∙ all-same 128 i 0;
+      counts = λ i h. fill-past (λ (i : ℕ). 1) (n + p) (replicate 128 0) i 0 (omega (arith, z .room)) ∙ all-same 128 i 0;
+      tasks = λ q h. fill-past (λ (i : ℕ). idleOwning (nodeNo (n + i))) p (replicate 16 noTask) q noTask h ∙ all-same 16 q noTask;
+    }
+
+-- a write to one of n cells or k nodes
+abbrev Inside : ℕ → ℕ → Write → Type 0
+Inside n k Nothing = Unit {0}
+Inside n k (Point x v) = x .0 < n
+Inside n k (Count v c) = v .0 < k
+Inside n k (Value v y) = v .0 < k
+
+row-inside : (n k : ℕ) (t : Task) (s : Seen) → InRange n k t → {f : ℕ} {d : Deed} → Moves t s f d → Inside n k (d .write)
+row-inside n k t s r l1 = tt
+row-inside n k t s r (l2 h) = r .held
+row-inside n k t s r (l3-passed h) = tt
+row-inside n k t s r (l3-turned h) = tt
+row-inside n k t s r l4 = tt
+row-inside n k t s r (l5 h) = r .held
+row-inside n k t s r s1 = r .own
+row-inside n k t s r (s2-swapped h) = r .cell
+row-inside n k t s r (s2-missed h) = tt
+row-inside n k t s r (s3 h) = r .held
+row-inside n k t s r (s4-took h) = tt
+row-inside n k t s r (s4-shared h) = tt
+row-inside n k t s r (s5 h) = r .held
+row-inside n k t s r (s6-took h) = r .cursor
+row-inside n k t s r (s6-busy h) = tt
+row-inside n k t s r (s7 h) = r .held
+row-inside n k t s r (r1 h) = r .held
+
+written-bare : (m : Machine) (q : TaskNo) (t : Task) (w : Write) → Bare m → q .0 < m .p → Inside (m .n) (m .k) w → Bare (written m q t w)
+written-bare m q t w B hq hw =
+    record {
+      cells = λ x h. cells w hw x h ∙ B .cells x h;
+      values = λ i h. values w hw i h ∙ B .values i h;
+      counts = λ i h. counts w hw i h ∙ B .counts i h;
+      tasks = λ y h. getD-set-other (m .tasks) (q .0) y t noTask (omega arith) ∙ B .tasks y h;
+    }
+  where
+    cells : (w : Write) → Inside (m .n) (m .k) w → (x : ℕ) → m .n ≤ x → getD (cellsAfter m w) x 0 ≡ getD (m .cells) x 0
+    cells Nothing i x h = refl
+    cells (Point y v) i x h = getD-set-other (m .cells) (y .0) x (v .0) 0 (omega arith)
+    cells (Count v c) i x h = refl
+    cells (Value v y) i x h = refl
+
+    values : (w : Write) → Inside (m .n) (m .k) w → (x : ℕ) → m .k ≤ x → getD (valuesAfter m w) x 0 ≡ getD (m .values) x 0
+    values Nothing i x h = refl
+    values (Point y v) i x h = refl
+    values (Count v c) i x h = refl
+    values (Value v y) i x h = getD-set-other (m .values) (v .0) x y 0 (omega arith)
+
+    counts : (w : Write) → Inside (m .n) (m .k) w → (x : ℕ) → m .k ≤ x → getD (countsAfter m w) x 0 ≡ getD (m .counts) x 0
+    counts Nothing i x h = refl
+    counts (Point y v) i x h = refl
+    counts (Count v c) i x h = getD-set-other (m .counts) (v .0) x c 0 (omega arith)
+    counts (Value v y) i x h = refl
+
+entry-bare : (m : Machine) (e : List ℕ) → Kept m → Bare m → Bare (applyOf m e .machine)
+entry-bare m e K B =
+    by-entry m e (λ a. Bare (a .machine)) (λ i r w. B)
+    (λ a h. written-bare m (taskNo e) _ Nothing B (a .task) tt)
+    (λ a h. written-bare m (taskNo e) _ Nothing B (a .task) tt)
+    (λ a. written-bare m (taskNo e) _ Nothing B (a .task) tt)
+    (λ d s. written-bare m (taskNo e) (d .task) (d .write) B (s .task)
+    (row-inside (m .n) (m .k) (taskOf m e) (seenOf m (taskOf m e)) (K .sound .each (getD e 2 0) (s .task)) (moves (taskOf m e) (seenOf m (taskOf m e)) d (s .does))))
+
+schedule-bare : (es : List (List ℕ)) (m : Machine) → Kept m → Bare m → Bare (applied m es)
+unfolding applied
+schedule-bare [] m K B = B
+schedule-bare (e ∷ es) m K B = schedule-bare es (applyOf m e .machine) (entry-keeps m e K) (entry-bare m e K B)
+
+pub reached-bare : {m : Machine} → Reached m → Bare m
+reached-bare {m} r =
+    let c = scheduled r in
+    let fresh = by-setup (c .setup) (c .used) Bare (λ n p k z. fresh-bare n p k (c .setup) z) (c .ready) in
+    subst Bare (c .reaches) (schedule-bare (c .entries) _ (setup-kept (c .setup) (c .used) (c .ready)) fresh)
+
+-- THEY ARE NEVER LOOKED AT
+
+set-agree : {A : Type 0} (d : A) (k : ℕ) (l l′ : List A) (i : ℕ) (a : A) → Agree d k l l′ → Agree d k (set l i a) (set l′ i a)
+set-agree d k l l′ i a g =
+    record {
+      long = length-set l i a ∙ g .long ∙ sym (length-set l′ i a);
+      below = λ j h. elim (ℕ-discrete j i) [
+        | yes e ↦ elim (decLt i (length l)) [
+          | yes r ↦ rw e (getD-set-same l i a d r ∙ sym (getD-set-same l′ i a d (omega (arith, g .long))))
+          | no r ↦ rw (set-out l i a (omega arith), set-out l′ i a (omega (arith, g .long))) (g .below j h)
+        ]
+        | no ne ↦ getD-set-other l i j a d ne ∙ g .below j h ∙ sym (getD-set-other l′ i j a d ne)
+      ];
+    }
+
+-- m with other tables, which agree with its own below N, P and K
+module _ (m : Machine) (cs vs ns : List ℕ) (ts : List Task) (C : Agree 0 (m .n) (m .cells) cs) (W : Agree 0 (m .k) (m .values) vs) (N : Agree 0 (m .k) (m .counts) ns) (T : Agree noTask (m .p) (m .tasks) ts) where
+  abbrev m′ : Machine
+  m′ = record { n = m .n; p = m .p; k = m .k; cells = cs; values = vs; counts = ns; tasks = ts }
+
+  alike : Alike m m′
+  alike = record { same-n = refl; same-p = refl; same-k = refl; cells = C; values = W; counts = N; tasks = T }
+
+  written-alike : (q : TaskNo) (t : Task) (w : Write) → Alike (written m q t w) (written m′ q t w)
+  written-alike q t w =
+      record {
+        same-n = refl;
+        same-p = refl;
+        same-k = refl;
+        cells = cells w;
+        values = values w;
+        counts = counts w;
+        tasks = set-agree noTask (m .p) (m .tasks) ts (q .0) t T;
+      }
+    where
+      cells : (w : Write) → Agree 0 (m .n) (cellsAfter m w) (cellsAfter m′ w)
+      cells Nothing = C
+      cells (Point x v) = set-agree 0 (m .n) (m .cells) cs (x .0) (v .0) C
+      cells (Count v c) = C
+      cells (Value v y) = C
+
+      values : (w : Write) → Agree 0 (m .k) (valuesAfter m w) (valuesAfter m′ w)
+      values Nothing = W
+      values (Point x v) = W
+      values (Count v c) = W
+      values (Value v y) = set-agree 0 (m .k) (m .values) vs (v .0) y W
+
+      counts : (w : Write) → Agree 0 (m .k) (countsAfter m w) (countsAfter m′ w)
+      counts Nothing = N
+      counts (Point x v) = N
+      counts (Count v c) = set-agree 0 (m .k) (m .counts) ns (v .0) c N
+      counts (Value v y) = N
+
+  carried-alike : (q : TaskNo) (x : Effect) → Alike-after (carriedOf m q x) (carriedOf m′ q x)
+  unfolding carriedOf
+  carried-alike q (Refuses r) = record { answer = refl; task = refl; machine = alike }
+  carried-alike q (Does d) = record { answer = refl; task = refl; machine = written-alike q (d .task) (d .write) }
+
+  range-same : inRange m ≡ inRange m′
+  unfolding inRange
+  range-same =
+      rw (
+        every-same (cellOk (m .cells) (m .k)) (cellOk cs (m .k)) (m .n) (λ i h. ap (λ (v : ℕ). ltb v (m .k)) (C .below i h)),
+        every-same (countOk (m .counts) (m .p)) (countOk ns (m .p)) (m .k) (λ i h. ap (λ (c : ℕ). leb c (m .p + 1)) (N .below i h)),
+        every-same (taskOkIn (m .tasks) (m .n) (m .k)) (taskOkIn ts (m .n) (m .k)) (m .p) (λ q h. ap (taskOk (m .n) (m .k)) (T .below q h)),
+      )
+
+  module _ (inside : inRange m ≡ true) where
+    task-range : (q : ℕ) → q < m .p → InRange (m .n) (m .k) (getD (m .tasks) q noTask)
+    unfolding inRange taskOk
+    task-range q h =
+        let t = getD (m .tasks) q noTask in
+        let all = both (tablesOk (m .n) (m .p) (m .k) (m .cells) (m .counts)) (every (taskOkIn (m .tasks) (m .n) (m .k)) (m .p)) inside .1 in
+        let a = both (leb (t .phase) 14 && ltb (t .cell .0) (m .n) && ltb (t .held .0) (m .k) && ltb (t .own .0) (m .k)) (ltb (t .cursor .0) (m .k)) (every-at (taskOkIn (m .tasks) (m .n) (m .k)) (m .p) q all h) in
+        let b = both (leb (t .phase) 14 && ltb (t .cell .0) (m .n) && ltb (t .held .0) (m .k)) (ltb (t .own .0) (m .k)) (a .0) in
+        let c = both (leb (t .phase) 14 && ltb (t .cell .0) (m .n)) (ltb (t .held .0) (m .k)) (b .0) in
+        let d = both (leb (t .phase) 14) (ltb (t .cell .0) (m .n)) (c .0) in
+        record { phase = leb-true _ _ (d .0); cell = ltb-true _ _ (d .1); held = ltb-true _ _ (c .1); own = ltb-true _ _ (b .1); cursor = ltb-true _ _ (a .1) }
+
+    seen-same : (t : Task) → InRange (m .n) (m .k) t → seenOf m t ≡ seenOf m′ t
+    seen-same t r = λ i. record {
+      here = nodeNo (C .below (t .cell .0) (r .cell) i);
+      «held_count» = N .below (t .held .0) (r .held) i;
+      «cursor_count» = N .below (t .cursor .0) (r .cursor) i;
+      «held_value» = W .below (t .held .0) (r .held) i;
+      tasks = m .p;
+      nodes = m .k;
+    }
+
+    order-same : (e : Entry) → orderOf (m .n) (m .p) e (taskIn (m .tasks) (e .task)) (seenOf m (taskIn (m .tasks) (e .task))) ≡ orderOf (m .n) (m .p) e (taskIn ts (e .task)) (seenOf m′ (taskIn ts (e .task)))
+    unfolding orderOf
+    order-same e =
+        elim (decLe (m .p) (e .task .0)) [
+          | yes h ↦ rw (le-leb (m .p) (e .task .0) h)
+          | no h ↦ (let t = taskIn (m .tasks) (e .task) in
+              let l : e .task .0 < m .p = omega arith in
+              ap (orderOf (m .n) (m .p) e t) (seen-same t (task-range (e .task .0) l)) ∙ ap (λ (u : Task). orderOf (m .n) (m .p) e u (seenOf m′ u)) (T .below (e .task .0) l))
+        ]
+
+    read-alike : (r : EntryRead) → Alike-after (readOf m r) (readOf m′ r)
+    unfolding readOf obeyOf
+    read-alike (Unread r) = record { answer = refl; task = refl; machine = alike }
+    read-alike (Whole e) =
+        subst (λ (x : Effect). Alike-after (obeyOf m e) (carriedOf m′ (e .task) x)) (order-same e) (carried-alike (e .task) (orderOf (m .n) (m .p) e (taskIn (m .tasks) (e .task)) (seenOf m (taskIn (m .tasks) (e .task)))))
+
+  tables-alike : (e : List ℕ) → Alike-after (applyOf m e) (applyOf m′ e)
+  unfolding applyOf
+  tables-alike e =
+      rw (← range-same)
+      (alike-cond (inRange m) (λ h. read-alike h (entryOf e)) (record { answer = refl; task = refl; machine = alike }))
+    where
+      alike-cond : (b : Bool) {a a′ c c′ : Applied} → (b ≡ true → Alike-after a a′) → Alike-after c c′ → Alike-after (cond (not b) c a) (cond (not b) c′ a′)
+      alike-cond true f g = f refl
+      alike-cond false f g = g
+
+pub entry-alike : (m m′ : Machine) → Alike m m′ → (e : List ℕ) → Alike-after (applyOf m e) (applyOf m′ e)
+entry-alike m m′ L e =
+    subst (λ (x : Machine). Alike-after (applyOf m e) (applyOf x e))
+    (λ i. record { n = L .same-n i; p = L .same-p i; k = L .same-k i; cells = m′ .cells; values = m′ .values; counts = m′ .counts; tasks = m′ .tasks })
+    (tables-alike m (m′ .cells) (m′ .values) (m′ .counts) (m′ .tasks) (L .cells) (L .values) (L .counts) (L .tasks) e)
