@@ -60,7 +60,7 @@ module _ (s : List ℕ) (used : ℕ) (ok : setupOf s .answer ≡ Ready used) (es
 pub answer-ends : (m : Machine) (e : List ℕ) (x : Result) → finishes (applyOf m e .answer) ≡ x ∷ [] → (us : List Event) × (eventsOf m e ≡ us ++ ends (getD e 2 0) x ∷ [])
 unfolding eventsOf
 answer-ends m e x =
-    by-entry m e (λ a. finishes (a .answer) ≡ x ∷ [] → (us : List Event) × (eventsIn (a .answer) m (a .machine) e ≡ us ++ ends (getD e 2 0) x ∷ []))
+    by-entry m e (λ a. finishes (a .answer) ≡ x ∷ [] → (us : List Event) × (eventsIn actsFrom (a .answer) m (a .machine) e ≡ us ++ ends (getD e 2 0) x ∷ []))
     (λ i r k. none) (λ k h. none) (λ k h. none) (λ k. none)
     (λ d s q. (cond (actsFrom (taskOf m e .phase) (taskOf (steppedBy m e d .machine) e .phase)) (acts (getD e 2 0) ∷ []) [], rw (s .kind, q)))
   where

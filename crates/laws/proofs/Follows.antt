@@ -232,7 +232,7 @@ module _ (m : Machine) (K : Kept m) (p : TaskNo) (hp : p .0 < m .p) (a : State) 
 pub entry-fits : (m : Machine) (e : List ℕ) (a : State) → Kept m → Matches m a → Follows a (eventsOf m e) × Matches (applyOf m e .machine) (afterAll a (eventsOf m e))
 unfolding eventsOf
 entry-fits m e a K M =
-    by-entry m e (λ r. Follows a (eventsIn (r .answer) m (r .machine) e) × Matches (r .machine) (afterAll a (eventsIn (r .answer) m (r .machine) e)))
+    by-entry m e (λ r. Follows a (eventsIn actsFrom (r .answer) m (r .machine) e) × Matches (r .machine) (afterAll a (eventsIn actsFrom (r .answer) m (r .machine) e)))
     (λ i r w. (tt, M))
     (λ k h. rw (k .kind, k .kind) (begin-fits m K (taskNo e) (k .task) a M 0 (load (getD e 4 0)) _ (k .phase) refl (λ y. refl) refl))
     (λ k h. rw (k .kind, k .kind) (begin-fits m K (taskNo e) (k .task) a M 6 (store (getD e 4 0) (wordAt e 6)) _ (k .phase) refl (λ y. refl) (rw h)))

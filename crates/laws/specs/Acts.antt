@@ -77,15 +77,16 @@ abbrev pub each : {A B : Type 0} → (A → B) → List A → List B
 each f [] = []
 each f (x ∷ xs) = f x ∷ each f xs
 
--- the events of an accepted entry of task p: go may act and may end a call, the other kinds begin one
-abbrev pub eventsBy : Bool → ℕ → Machine → Machine → List ℕ → Reply → List Event
-eventsBy true p m m′ e r = cond (actsFrom (taskOf m e .phase) (taskOf m′ e .phase)) (acts p ∷ []) [] ++ each (ends p) (ending r)
-eventsBy false p m m′ e r = each (begins p) (beginning (kindOf e) e (taskOf m e))
+-- the events of an accepted entry of task p: go may end a call and, where `acting` says so of the phases before and after it, acts; the other kinds
+-- begin a call
+abbrev pub eventsBy : (ℕ → ℕ → Bool) → Bool → ℕ → Machine → Machine → List ℕ → Reply → List Event
+eventsBy acting true p m m′ e r = cond (acting (taskOf m e .phase) (taskOf m′ e .phase)) (acts p ∷ []) [] ++ each (ends p) (ending r)
+eventsBy acting false p m m′ e r = each (begins p) (beginning (kindOf e) e (taskOf m e))
 
 -- a refused entry has none
-abbrev pub eventsIn : Answer → Machine → Machine → List ℕ → List Event
-eventsIn (Refused r) m m′ e = []
-eventsIn (Replied r) m m′ e = eventsBy (eqb (kindOf e) 0) (getD e 2 0) m m′ e r
+abbrev pub eventsIn : (ℕ → ℕ → Bool) → Answer → Machine → Machine → List ℕ → List Event
+eventsIn acting (Refused r) m m′ e = []
+eventsIn acting (Replied r) m m′ e = eventsBy acting (eqb (kindOf e) 0) (getD e 2 0) m m′ e r
 
 unfoldable pub eventsOf : Machine → List ℕ → List Event
-eventsOf m e = eventsIn (applyOf m e .answer) m (applyOf m e .machine) e
+eventsOf m e = eventsIn actsFrom (applyOf m e .answer) m (applyOf m e .machine) e
