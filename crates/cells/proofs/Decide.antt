@@ -1,4 +1,4 @@
--- What is decided over lent tables, once it is carried out, is what an entry does. Assumes nothing.
+-- What is decided over lent tables is what is decided of the machine, so that carrying it out is `applyOf`. Assumes nothing.
 use Prim.Native.Nat.{ℕ, _≤_, _<_, min}
 use mathlib.Core.Path.{_≡_, refl, sym, ap, _∙_}
 use mathlib.Core.Bool.{Bool, true, false, cond, not, _&&_}
@@ -16,17 +16,13 @@ use Rattle.tables.specs.Tables.{sizesOk, cellOk, countOk, taskOkIn, taskIn}
 use Rattle.tables.proofs.Laws.{sizes-bounds}
 use Rattle.entries.specs.Entry.{entryOf}
 use Rattle.entries.specs.Order.{orderOf}
-use Rattle.cells.specs.Types.{Machine, Applied, Task, Seen, Deed, Effect, Does, Refuses, Refusal, Replied, Damaged, NoTask, WrongMark, TooShort, Entry, Whole, Unread, Decision}
+use Rattle.cells.specs.Types.{Machine, TaskNo, Task, Seen, Deed, Effect, Does, Refuses, Refusal, Replied, NoTask, WrongMark, TooShort, Entry, Whole, Unread, Decision}
 use Rattle.cells.specs.Machine.{seenOf, written, refusedBy, carriedOf, tablesOk, inRange}
-use Rattle.cells.specs.Apply.{obeyOf, readOf, applyOf}
-use Rattle.cells.specs.Decide.{judgedOf, decidedOf}
+use Rattle.cells.specs.Apply.{judgedOf, guarded, decidedOf, decisionOf, carriedBy, applyOf}
 
--- the decision on the bytes s over the tables of machine m
-abbrev pub decisionOf : Machine → Task → Bool → List ℕ → Decision
-decisionOf m t inside s = decidedOf (m .n) (m .p) (m .k) (m .cells) (m .values) (m .counts) t inside s
-
-abbrev pub carriedBy : Machine → Decision → Applied
-carriedBy m d = carriedOf m (record { 0 = d .task }) (d .effect)
+-- the decision on the bytes s over the tables of machine m, with the record t and the range test of the task records handed in
+abbrev pub decidedOn : Machine → Task → Bool → List ℕ → Decision
+decidedOn m t inside s = decidedOf (m .n) (m .p) (m .k) (m .cells) (m .values) (m .counts) t inside s
 
 -- past the table's end no entry is accepted, so the record that was looked at doesn't matter
 order-same : (m : Machine) (e : Entry) (t : Task) → m .p ≤ 16 → t ≡ getD (m .tasks) (min (e .task .0) 15) noTask
@@ -40,13 +36,13 @@ order-same m e t few is =
       | no l ↦ rw (le-leb (m .p) (e .task .0) (omega arith))
     ]
 
-read-same : (m : Machine) (t : Task) (a b : Bool) (e : Entry) → m .p ≤ 16 → t ≡ getD (m .tasks) (min (e .task .0) 15) noTask
-    → readOf m (cond a (Unread TooShort) (cond b (Unread WrongMark) (Whole e)))
-    ≡ carriedBy m (judgedOf (m .n) (m .p) t (seenOf m t) (cond a (Unread TooShort) (cond b (Unread WrongMark) (Whole e))))
-unfolding readOf judgedOf obeyOf carriedOf
-read-same m t true b e few is = refl
-read-same m t false true e few is = refl
-read-same m t false false e few is = ap (λ (x : Effect). carriedOf m (e .task) x) (sym (order-same m e t few is))
+judged-same : (m : Machine) (t : Task) (a b : Bool) (e : Entry) → m .p ≤ 16 → t ≡ getD (m .tasks) (min (e .task .0) 15) noTask
+    → judgedOf (m .n) (m .p) (λ q. t) (seenOf m) (cond a (Unread TooShort) (cond b (Unread WrongMark) (Whole e)))
+    ≡ judgedOf (m .n) (m .p) (taskIn (m .tasks)) (seenOf m) (cond a (Unread TooShort) (cond b (Unread WrongMark) (Whole e)))
+unfolding judgedOf
+judged-same m t true b e few is = refl
+judged-same m t false true e few is = refl
+judged-same m t false false e few is = ap (λ (x : Effect). record { task = e .task .0; effect = x }) (order-same m e t few is)
 
 -- an accepted entry is whole, and its task is below P
 order-does : (n p : ℕ) (e : Entry) (t : Task) (o : Seen) (x : Deed) → orderOf n p e t o ≡ Does x → e .task .0 < p
@@ -57,13 +53,13 @@ order-does n p e t o x h = leb-false p (e .task .0) (below (leb p (e .task .0)) 
     below true f h = let z : _≡_ {A = ℕ} 0 1 = cc in absurd (omega arith)
     below false f h = refl
 
-read-does : (n p : ℕ) (t : Task) (o : Seen) (a b : Bool) (e : Entry) (x : Deed)
-    → judgedOf n p t o (cond a (Unread TooShort) (cond b (Unread WrongMark) (Whole e))) .effect ≡ Does x
-    → (judgedOf n p t o (cond a (Unread TooShort) (cond b (Unread WrongMark) (Whole e))) .task ≡ e .task .0) × (e .task .0 < p)
+judged-does : (n p : ℕ) (at : TaskNo → Task) (sees : Task → Seen) (a b : Bool) (e : Entry) (x : Deed)
+    → judgedOf n p at sees (cond a (Unread TooShort) (cond b (Unread WrongMark) (Whole e))) .effect ≡ Does x
+    → (judgedOf n p at sees (cond a (Unread TooShort) (cond b (Unread WrongMark) (Whole e))) .task ≡ e .task .0) × (e .task .0 < p)
 unfolding judgedOf
-read-does n p t o true b e x h = let z : _≡_ {A = ℕ} 0 1 = cc in absurd (omega arith)
-read-does n p t o false true e x h = let z : _≡_ {A = ℕ} 0 1 = cc in absurd (omega arith)
-read-does n p t o false false e x h = (refl, order-does n p e t o x h)
+judged-does n p at sees true b e x h = let z : _≡_ {A = ℕ} 0 1 = cc in absurd (omega arith)
+judged-does n p at sees false true e x h = let z : _≡_ {A = ℕ} 0 1 = cc in absurd (omega arith)
+judged-does n p at sees false false e x h = (refl, order-does n p e (at (e .task)) (sees (at (e .task))) x h)
 
 -- the tables in range have at most 16 tasks
 few-tasks : (m : Machine) → tablesOk (m .n) (m .p) (m .k) (m .cells) (m .counts) ≡ true → m .p ≤ 16
@@ -98,33 +94,32 @@ module _ (m : Machine) (s : List ℕ) (t : Task) (inside : Bool) (known : Known 
   abbrev ok : Bool
   ok = tablesOk (m .n) (m .p) (m .k) (m .cells) (m .counts)
 
-  carried-cond : (b : Bool) (d : Decision) (a : Applied) → (b ≡ true → a ≡ carriedBy m d)
-      → cond (not b) (refusedBy m 0 Damaged) a ≡ carriedBy m (cond (not b) (record { task = 0; effect = Refuses Damaged }) d)
-  unfolding carriedOf
-  carried-cond true d a h = h refl
-  carried-cond false d a h = refl
+  guarded-same : (b : Bool) (d d′ : Decision) → (b ≡ true → d ≡ d′) → guarded b d ≡ guarded b d′
+  guarded-same true d d′ h = h refl
+  guarded-same false d d′ h = refl
 
-  decided-apply : applyOf m s ≡ carriedBy m (decisionOf m t inside s)
-  unfolding applyOf decidedOf entryOf
-  decided-apply =
-      ap (λ (b : Bool). cond (not b) (refusedBy m 0 Damaged) (readOf m (entryOf s))) (range-tests m ∙ ap (λ (b : Bool). ok && b) (sym (known .ranges)))
-      ∙ carried-cond (ok && inside) _ _ (λ h. read-same m t (ltb (length s) 10) (not (marked entryMark s)) entry (few-tasks m (both ok inside h .0)) (known .task))
+  decided-same : decidedOn m t inside s ≡ decisionOf m s
+  unfolding decidedOf decisionOf entryOf
+  decided-same =
+      guarded-same (ok && inside) _ _ (λ h. judged-same m t (ltb (length s) 10) (not (marked entryMark s)) entry (few-tasks m (both ok inside h .0)) (known .task))
+      ∙ ap (λ (b : Bool). guarded b (judgedOf (m .n) (m .p) (taskIn (m .tasks)) (seenOf m) (entryOf s))) (ap (λ (b : Bool). ok && b) (known .ranges) ∙ sym (range-tests m))
 
-  decided-does : (x : Deed) → decisionOf m t inside s .effect ≡ Does x → (decisionOf m t inside s .task ≡ getD s 2 0) × (getD s 2 0 ≤ 15)
+  decided-does : (x : Deed) → decidedOn m t inside s .effect ≡ Does x → (decidedOn m t inside s .task ≡ getD s 2 0) × (getD s 2 0 ≤ 15)
   unfolding decidedOf entryOf
   decided-does x h = does (ok && inside) _ h (λ g i. let few = few-tasks m (both ok inside g .0) in
-      let d = read-does (m .n) (m .p) t (seenOf m t) (ltb (length s) 10) (not (marked entryMark s)) entry x i in
+      let d = judged-does (m .n) (m .p) (λ q. t) (seenOf m) (ltb (length s) 10) (not (marked entryMark s)) entry x i in
       (d .0, omega (arith, d .1)))
     where
-      does : (b : Bool) (d : Decision) → cond (not b) (record { task = 0; effect = Refuses Damaged }) d .effect ≡ Does x
+      does : (b : Bool) (d : Decision) → guarded b d .effect ≡ Does x
           → (b ≡ true → d .effect ≡ Does x → (d .task ≡ getD s 2 0) × (getD s 2 0 ≤ 15))
-          → (cond (not b) (record { task = 0; effect = Refuses Damaged }) d .task ≡ getD s 2 0) × (getD s 2 0 ≤ 15)
+          → (guarded b d .task ≡ getD s 2 0) × (getD s 2 0 ≤ 15)
       does true d h f = f refl h
       does false d h f = let z : _≡_ {A = ℕ} 0 1 = cc in absurd (omega arith)
 
-  module _ (d : Decision) (is : d ≡ decisionOf m t inside s) where
+  module _ (d : Decision) (is : d ≡ decidedOn m t inside s) where
     pub applied : applyOf m s ≡ carriedBy m d
-    applied = decided-apply ∙ ap (carriedBy m) (sym is)
+    unfolding applyOf
+    applied = ap (carriedBy m) (sym (is ∙ decided-same))
 
     pub applied-refuses : (y : Refusal) → d .effect ≡ Refuses y → applyOf m s ≡ refusedBy m (d .task) y
     unfolding carriedOf

@@ -23,8 +23,7 @@ ghost use Rattle.tasks.specs.Records.{nodeNo, noTask, idleOwning};
 ghost use Rattle.tasks.specs.Holders.{heldAmong};
 ghost use Rattle.tables.specs.Tables.{taskIn, putIn};
 ghost use Rattle.cells.specs.Machine.{seenIn, cellsBy, valuesBy, countsBy, tablesOk, inRange};
-ghost use Rattle.cells.specs.Apply.{applyOf};
-ghost use Rattle.cells.specs.Decide.{decidedOf};
+ghost use Rattle.cells.specs.Apply.{decidedOf, applyOf};
 ghost use Rattle.cells.specs.Setup.{blankOf, freshOf, refusedSetup, setupOf, setupNumber, setupBytes};
 
 // N, P and K; the node that each cell points at; each node's value and count; the task records. Places past N, P and K are never looked at.

@@ -15,8 +15,9 @@ use Rattle.entries.specs.Entry.{entryOf, padded, outside}
 use Rattle.entries.specs.Order.{callOf, orderOf}
 use Rattle.tables.specs.Tables.{taskIn}
 use Rattle.cells.specs.declared.Machine.{Machine}
-use Rattle.cells.specs.Machine.{inRange}
-use Rattle.cells.specs.Apply.{obeyOf, readOf, applyOf}
+use Rattle.cells.specs.declared.Applied.{Applied}
+use Rattle.cells.specs.Machine.{seenOf, carriedOf, inRange}
+use Rattle.cells.specs.Apply.{judgedOf, decisionOf, applyOf}
 use Rattle.faults.specs.Benches.{asWritten, table, stepBy, goes, readBy, applyBy}
 
 -- by how a test came out
@@ -24,9 +25,13 @@ by-test : {A : Type 0} (t : Bool) (a b c : A) → (t ≡ true → a ≡ c) → (
 by-test true a b c f g = f refl
 by-test false a b c f g = g refl
 
--- a go by document 01's rows is what the order of refusals makes of it
-step-own : (m : Machine) (e : Entry) → goes m e ≡ true → stepBy table m e ≡ obeyOf m e
-unfolding table obeyOf orderOf callOf effectOf outside
+-- what the order of refusals makes of an entry
+abbrev obeyed : Machine → Entry → Applied
+obeyed m e = let t = taskIn (m .tasks) (e .task) in carriedOf m (e .task) (orderOf (m .n) (m .p) e t (seenOf m t))
+
+-- a go by document 01's rows is that
+step-own : (m : Machine) (e : Entry) → goes m e ≡ true → stepBy table m e ≡ obeyed m e
+unfolding table orderOf callOf effectOf outside
 step-own m e h =
     let h₁ = both (ltb (e .task .0) (m .p)) _ h in
     let h₂ = both (eqb (e .kind) 0) _ (h₁ .1) in
@@ -38,8 +43,8 @@ step-own m e h =
     )
 
 -- bytes that are read as an entry, on a record in range
-whole : (m : Machine) (s : List ℕ) (e : Entry) → inRange m ≡ true → entryOf s ≡ Whole e → applyOf m s ≡ obeyOf m e
-unfolding applyOf readOf
+whole : (m : Machine) (s : List ℕ) (e : Entry) → inRange m ≡ true → entryOf s ≡ Whole e → applyOf m s ≡ obeyed m e
+unfolding applyOf decisionOf judgedOf
 whole m s e h k = rw (h, k)
 
 read-own : (m : Machine) (s : List ℕ) (r : EntryRead) → inRange m ≡ true → entryOf s ≡ r → readBy table m s r ≡ applyOf m s

@@ -22,7 +22,7 @@ use Rattle.entries.specs.Order.{loadOf, storeOf, releaseOf, callOf, orderOf}
 use Rattle.cells.specs.declared.Machine.{Machine}
 use Rattle.cells.specs.declared.Applied.{Applied}
 use Rattle.cells.specs.Machine.{seenOf, carriedOf, inRange}
-use Rattle.cells.specs.Apply.{obeyOf, readOf, applyOf}
+use Rattle.cells.specs.Apply.{judgedOf, decisionOf, applyOf}
 use Rattle.cells.specs.Setup.{freshOf, setupOf}
 
 -- a row that may look at the whole record
@@ -107,5 +107,5 @@ comparing = record { apply = applyBy (set table 8 s2ByValue); passes = λ f f′
 
 -- for `unfolding` lines: all that a setup and an entry compute with, and the four benches
 unfoldable pub computing : Unit {0}
-unfolding every fillTo marked wordAt taskOk rows effectOf after raisedOf loweredOf sizesOk entryOf padded outside loadOf storeOf releaseOf callOf orderOf carriedOf inRange obeyOf readOf applyOf freshOf setupOf mended printed rereading comparing
+unfolding every fillTo marked wordAt taskOk rows effectOf after raisedOf loweredOf sizesOk entryOf padded outside loadOf storeOf releaseOf callOf orderOf carriedOf inRange judgedOf decisionOf applyOf freshOf setupOf mended printed rereading comparing
 computing = tt

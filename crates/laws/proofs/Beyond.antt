@@ -3,7 +3,7 @@ use Prim.Native.Nat.{ℕ, _+_, _≤_, _<_}
 use native.Mathlib.Omega.{arith}
 use native.Mathlib.Decide.{decLe, decLt, ℕ-discrete}
 use mathlib.Core.Path.{_≡_, refl, sym, ap, _∙_, subst}
-use mathlib.Core.Bool.{Bool, true, false, cond, not, _&&_}
+use mathlib.Core.Bool.{Bool, true, false, _&&_}
 use mathlib.Core.List.{List, [], _∷_}
 use lib.Dec.{leb, ltb}
 use lib.ListN.{length, getD, set, replicate, length-set, length-replicate, getD-replicate, List·getD-eq-default}
@@ -27,9 +27,9 @@ use Rattle.entries.specs.declared.EntryRead.the-variants.{Whole, Refused as Unr
 use Rattle.entries.specs.Entry.{entryOf}
 use Rattle.entries.specs.Order.{orderOf}
 use Rattle.cells.specs.declared.Machine.{Machine}
-use Rattle.cells.specs.declared.Applied.{Applied}
+use Rattle.cells.specs.declared.Decision.{Decision}
 use Rattle.cells.specs.Machine.{seenOf, cellsAfter, valuesAfter, countsAfter, written, carriedOf, tablesOk, inRange}
-use Rattle.cells.specs.Apply.{obeyOf, readOf, applyOf}
+use Rattle.cells.specs.Apply.{judgedOf, guarded, decisionOf, carriedBy, applyOf}
 use Rattle.cells.specs.Setup.{freshOf}
 use Rattle.runs.specs.Counts.{taskOf}
 use Rattle.laws.specs.Meaning.{InRange, Kept}
@@ -232,21 +232,22 @@ module _ (m : Machine) (cs vs ns : List ℕ) (ts : List Task) (C : Agree 0 (m .n
               ap (orderOf (m .n) (m .p) e t) (seen-same t (task-range (e .task .0) l)) ∙ ap (λ (u : Task). orderOf (m .n) (m .p) e u (seenOf m′ u)) (T .below (e .task .0) l))
         ]
 
-    read-alike : (r : EntryRead) → Alike-after (readOf m r) (readOf m′ r)
-    unfolding readOf obeyOf
-    read-alike (Unread r) = record { answer = refl; task = refl; machine = alike }
-    read-alike (Whole e) =
-        subst (λ (x : Effect). Alike-after (obeyOf m e) (carriedOf m′ (e .task) x)) (order-same e) (carried-alike (e .task) (orderOf (m .n) (m .p) e (taskIn (m .tasks) (e .task)) (seenOf m (taskIn (m .tasks) (e .task)))))
+    judged-same : (r : EntryRead) → judgedOf (m .n) (m .p) (taskIn (m .tasks)) (seenOf m) r ≡ judgedOf (m .n) (m .p) (taskIn ts) (seenOf m′) r
+    unfolding judgedOf
+    judged-same (Unread r) = refl
+    judged-same (Whole e) = ap (λ (x : Effect). record { task = e .task .0; effect = x }) (order-same e)
+
+  decision-same : (e : List ℕ) → decisionOf m e ≡ decisionOf m′ e
+  unfolding decisionOf
+  decision-same e = guarded-same (inRange m) (inRange m′) _ _ range-same (λ h. judged-same h (entryOf e))
+    where
+      guarded-same : (b b′ : Bool) (d d′ : Decision) → b ≡ b′ → (b ≡ true → d ≡ d′) → guarded b d ≡ guarded b′ d′
+      guarded-same true b′ d d′ q f = rw (← q) (f refl)
+      guarded-same false b′ d d′ q f = rw (← q)
 
   tables-alike : (e : List ℕ) → Alike-after (applyOf m e) (applyOf m′ e)
   unfolding applyOf
-  tables-alike e =
-      rw (← range-same)
-      (alike-cond (inRange m) (λ h. read-alike h (entryOf e)) (record { answer = refl; task = refl; machine = alike }))
-    where
-      alike-cond : (b : Bool) {a a′ c c′ : Applied} → (b ≡ true → Alike-after a a′) → Alike-after c c′ → Alike-after (cond (not b) c a) (cond (not b) c′ a′)
-      alike-cond true f g = f refl
-      alike-cond false f g = g
+  tables-alike e = subst (λ (d : Decision). Alike-after (carriedBy m (decisionOf m e)) (carriedBy m′ d)) (decision-same e) (carried-alike (record { 0 = decisionOf m e .task }) (decisionOf m e .effect))
 
 pub entry-alike : (m m′ : Machine) → Alike m m′ → (e : List ℕ) → Alike-after (applyOf m e) (applyOf m′ e)
 entry-alike m m′ L e =

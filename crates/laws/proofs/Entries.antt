@@ -27,12 +27,14 @@ use Rattle.steps.specs.declared.Effect.the-variants.{Does, Refuses}
 use Rattle.steps.specs.declared.Write.the-variants.{Nothing}
 use Rattle.steps.specs.Table.{effectOf}
 use Rattle.entries.specs.declared.Entry.{Entry}
+use Rattle.entries.specs.declared.EntryRead.{EntryRead}
 use Rattle.entries.specs.Entry.{entryOf, padded, outside}
 use Rattle.entries.specs.Order.{loadOf, storeOf, releaseOf, callOf, orderOf}
+use Rattle.tables.specs.Tables.{taskIn}
 use Rattle.cells.specs.declared.Machine.{Machine}
 use Rattle.cells.specs.declared.Applied.{Applied}
 use Rattle.cells.specs.Machine.{seenOf, written, refusedBy, carriedOf, inRange}
-use Rattle.cells.specs.Apply.{obeyOf, readOf, applyOf}
+use Rattle.cells.specs.Apply.{judgedOf, decisionOf, carriedBy, applyOf}
 use Rattle.runs.specs.Counts.{accepted, kindOf, taskOf}
 use Rattle.laws.specs.Solo.{goBytes}
 use Rattle.laws.proofs.Phases.{by-test}
@@ -125,13 +127,16 @@ module _ (m : Machine) (e : List ℕ) where
       asks : (k f : ℕ) → eqb kind k ≡ true → eqb (t .phase) f ≡ true → Asks m e k f
       asks k f a b = record { kind = eqb-true kind k a; task = hp; phase = eqb-true (t .phase) f b }
 
+  abbrev Read : EntryRead → Type 0
+  Read r = Outcome m e (carriedBy m (judgedOf (m .n) (m .p) (taskIn (m .tasks)) (seenOf m) r))
+
   -- the refusals in document 01's order
   pub outcome : Outcome m e (applyOf m e)
-  unfolding applyOf readOf obeyOf orderOf entryOf
+  unfolding applyOf decisionOf judgedOf carriedOf orderOf entryOf
   outcome =
-      by-test (Outcome m e) (not (inRange m)) _ _ (λ q. refused 0 Damaged (λ w. by-range (not-true _ q)))
-      (λ q. by-test (λ r. Outcome m e (readOf m r)) (ltb (length e) 10) _ _ (λ w. other 0 TooShort (omega arith))
-      (λ w. by-test (λ r. Outcome m e (readOf m r)) (not (marked entryMark e)) _ _ (λ x. other 0 WrongMark (omega arith))
+      by-test (λ d. Outcome m e (carriedBy m d)) (not (inRange m)) _ _ (λ q. refused 0 Damaged (λ w. by-range (not-true _ q)))
+      (λ q. by-test Read (ltb (length e) 10) _ _ (λ w. other 0 TooShort (omega arith))
+      (λ w. by-test Read (not (marked entryMark e)) _ _ (λ x. other 0 WrongMark (omega arith))
       (λ x. by-test Out (leb (m .p) (getD e 2 0)) _ _ (λ a. no NoTask (omega arith))
       (λ a. by-test Out (ltb 3 kind) _ _ (λ b. no NoKind (omega arith))
       (λ b. by-test Out (padded (entry (getD e 5 0))) _ _ (λ c. no NotZero (omega arith))
@@ -163,5 +168,5 @@ refused-leaves m e =
 -- a task's go, in a record that is in range, is its step
 pub go-steps : (m : Machine) (p : ℕ) → inRange m ≡ true → p < m .p
     → applyOf m (goBytes p) ≡ carriedOf m (record { 0 = p }) (effectOf (getD (m .tasks) p noTask) (seenOf m (getD (m .tasks) p noTask)))
-unfolding applyOf readOf obeyOf orderOf callOf entryOf marked padded wordAt outside
+unfolding applyOf decisionOf judgedOf orderOf callOf entryOf marked padded wordAt outside
 go-steps m p r h = rw (r, lt-leb (m .p) p h) refl

@@ -24,7 +24,7 @@ use Rattle.entries.specs.Order.{loadOf, storeOf, releaseOf, callOf, orderOf}
 use Rattle.cells.specs.declared.Machine.{Machine}
 use Rattle.cells.specs.declared.SetupAnswer.the-variants.{Ready}
 use Rattle.cells.specs.Machine.{carriedOf, inRange}
-use Rattle.cells.specs.Apply.{obeyOf, readOf, applyOf}
+use Rattle.cells.specs.Apply.{judgedOf, decisionOf, applyOf}
 use Rattle.cells.specs.Setup.{freshOf, setupOf}
 use Rattle.runs.specs.Counts.{anywhere, loadsAt, stepsAt, swapsAt}
 use Rattle.laws.specs.Meaning.{used, free}
@@ -100,7 +100,7 @@ record Computed : Type 0 where
   busy : used (applied fresh (case10 ++ gos 8 1)) ≡ 4
 
 computed : Computed
-unfolding total over applied applyOf readOf obeyOf orderOf callOf loadOf storeOf releaseOf entryOf padded outside marked wordAt carriedOf inRange sizesOk every taskOk effectOf rows after raisedOf loweredOf setupOf freshOf fillTo
+unfolding total over applied applyOf decisionOf judgedOf orderOf callOf loadOf storeOf releaseOf entryOf padded outside marked wordAt carriedOf inRange sizesOk every taskOk effectOf rows after raisedOf loweredOf setupOf freshOf fillTo
 computed =
     record { steps = refl; most = refl; loaded = refl; loads = refl; stores = refl; took = refl; count = refl; probing = refl; busy = refl }
 

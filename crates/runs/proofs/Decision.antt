@@ -9,7 +9,7 @@ use lib.Seq.{getD-set-same}
 use Rattle.tasks.specs.Records.{noTask}
 use Rattle.cells.specs.Machine.{carriedOf}
 use Rattle.cells.specs.Apply.{applyOf}
-use Rattle.cells.proofs.Decide.{decisionOf, Known, applied, applied-does, named}
+use Rattle.cells.proofs.Decide.{decidedOn, Known, applied, applied-does, named}
 use Rattle.runs.specs.Types.{Machine, Applied, Task, Effect, Deed, Does, Refuses, Decision, Report}
 use Rattle.runs.specs.Counts.{accepted, kindOf, taskOf}
 use Rattle.runs.specs.Run.{counted, replyBytes}
@@ -21,7 +21,7 @@ unfolding carriedOf
 carried-bytes m i (Refuses r) = refl
 carried-bytes m i (Does d) = refl
 
-module _ (m : Machine) (x : List ℕ) (t : Task) (inside : Bool) (known : Known m x t inside) (d : Decision) (is : d ≡ decisionOf m t inside x) where
+module _ (m : Machine) (x : List ℕ) (t : Task) (inside : Bool) (known : Known m x t inside) (d : Decision) (is : d ≡ decidedOn m t inside x) where
   pub decision-bytes : replyBytes (applyOf m x) ≡ decisionBytes d
   decision-bytes = ap replyBytes (applied m x t inside known d is) ∙ carried-bytes m (d .task) (d .effect)
 

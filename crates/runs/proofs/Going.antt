@@ -11,7 +11,7 @@ use Rattle.answers.specs.Numbers.{refusalNumber, numberOf}
 use Rattle.wire.specs.Bytes.{overlaid}
 use Rattle.cells.specs.Machine.{written, refusedBy}
 use Rattle.cells.specs.Apply.{applyOf}
-use Rattle.cells.proofs.Decide.{decisionOf, Known, applied-refuses, applied-does}
+use Rattle.cells.proofs.Decide.{decidedOn, Known, applied-refuses, applied-does}
 use Rattle.runs.specs.Types.{Machine, Report, Applied, Task, Refusal, Deed, Does, Refuses, Decision}
 use Rattle.runs.specs.Counts.{accepted, kindOf, taskOf}
 use Rattle.runs.specs.Run.{entriesIn, entriesOf, cut, counted, reportOf, refusedAt, ranFrom, replyBytes, repliesFrom}
@@ -84,7 +84,7 @@ module _ (s o₀ : List ℕ) (m₀ : Machine) where
           }
 
       -- the same of an entry that was decided, for the part x of the bytes that is the next entry
-      module _ (x : List ℕ) (q : x ≡ e) (t : Task) (inside : Bool) (known : Known m x t inside) (d : Decision) (is : d ≡ decisionOf m t inside x) (o′ : List ℕ) (r′ : Report) (kind : ℕ) (kinds : kind ≡ kindOf x) (tells : r′ ≡ toldOf r kind (t .phase) (d .effect)) (wrote : o′ ≡ overlaid o (8 * i) (decisionBytes d)) where
+      module _ (x : List ℕ) (q : x ≡ e) (t : Task) (inside : Bool) (known : Known m x t inside) (d : Decision) (is : d ≡ decidedOn m t inside x) (o′ : List ℕ) (r′ : Report) (kind : ℕ) (kinds : kind ≡ kindOf x) (tells : r′ ≡ toldOf r kind (t .phase) (d .effect)) (wrote : o′ ≡ overlaid o (8 * i) (decisionBytes d)) where
         told : r′ ≡ toldOf r (kindOf x) (t .phase) (d .effect)
         told = tells ∙ ap (λ (k : ℕ). toldOf r k (t .phase) (d .effect)) kinds
 

@@ -2,7 +2,7 @@
 use mathlib.Core.Path.{sym, _∙_}
 use mathlib.Core.Bool.{and-false}
 use borrow.Author.Tests.{not-true, not-false}
-use Rattle.cells.specs.Decide.{judgedOf, decidedOf}
+use Rattle.cells.specs.Apply.{judgedOf, decidedOf}
 use borrow.Author.Needs.{needs}
 use Rattle.cells.proofs.decided.Statement.{statement}
 use Rattle.cells.proofs.decided.Tie as tie
