@@ -16,7 +16,7 @@ use Rattle.cells.specs.declared.SetupAnswer.the-variants.{Ready, Refused as Not
 use Rattle.cells.specs.Machine.{seenOf, inRange}
 use Rattle.cells.specs.Apply.{applyOf}
 use Rattle.cells.specs.Setup.{blankOf, setupOf}
-use Rattle.runs.specs.Counts.{taskOf, anywhere, loadsAt, stepsAt, turnedAt, swapsAt}
+use Rattle.runs.specs.Counts.{accepted, taskOf, anywhere, loadsAt, stepsAt, turnedAt, swapsAt}
 use Rattle.runs.specs.Run.{entriesIn, entriesOf, replyBytes, repliesOf, untriedOf, ranOf, bufferOf}
 use Rattle.figure1.specs.Figure1.{Call, Result}
 use Rattle.figure1.specs.Histories.{State, Event, begins, ends, after, afterAll, Follows, start}
@@ -27,8 +27,12 @@ use Rattle.figure1.proofs.Once.{Acted, Called, finished, unfinished, in-order, 
 use Rattle.laws.specs.Acts.{Matches, finishes, eventsOf}
 use Rattle.laws.specs.Schedules.{applied, tried, Reached, over}
 use Rattle.laws.specs.Beyond.{Bare, Alike, Alike-after}
-use Rattle.laws.proofs.Entries.{Outcome, outcome, Steps, refused-leaves}
-use Rattle.laws.proofs.Rows.{Moves, moves}
+use Rattle.laws.specs.Accepts.{Fits}
+use Rattle.laws.specs.Outcomes.{Outcome, Steps}
+use Rattle.laws.specs.Moves.{Moves}
+use Rattle.laws.proofs.Entries.{outcome, refused-leaves}
+use Rattle.laws.proofs.Rows.{moves}
+use Rattle.laws.proofs.Accepts.{takes, fits}
 use Rattle.laws.proofs.Start.{setup-kept, setup-blank}
 use Rattle.laws.proofs.Runs.{run-damaged, run-long, run-no-room, run-tries, buffer-length, buffer-past}
 use Rattle.laws.proofs.Reached.{schedule-keeps, reached-kept, Scheduled, scheduled}
@@ -89,6 +93,11 @@ never-looked-at = entry-alike
 
 -- DEMAND 2. An accepted entry does the step of document 01's table and nothing else; and over every schedule from an accepted setup the cells'
 -- values and what finished calls gave are figure 1's, each call acting where the demand says (`actsFrom` in laws/specs/Acts).
+
+-- a record reached from an accepted setup takes exactly the entries that fit it: whole and marked, of a task below P, and what that task may be
+-- asked (Accepts)
+pub accepted-exactly : {m : Machine} → Reached m → (e : List ℕ) → (Fits m e → accepted (applyOf m e .answer) ≡ true) × (accepted (applyOf m e .answer) ≡ true → Fits m e)
+accepted-exactly {m} r e = (takes m (reached-kept r) e, fits m (reached-kept r) e)
 
 -- an entry is refused, begins a call, or makes a step (Entries), and the step is its phase's row of the table (Rows)
 pub entry-does : (m : Machine) (e : List ℕ) → Outcome m e (applyOf m e)

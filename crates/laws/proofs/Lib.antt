@@ -9,6 +9,7 @@ pub mod Start
 pub mod Runs
 pub mod Reached
 pub mod Beyond
+pub mod Accepts
 pub mod Follows
 pub mod Engine
 pub mod Numbers

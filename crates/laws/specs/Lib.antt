@@ -2,5 +2,8 @@ pub mod Meaning
 pub mod Beyond
 pub mod Acts
 pub mod Schedules
+pub mod Accepts
+pub mod Outcomes
+pub mod Moves
 pub mod Solo
 pub mod Numbers
