@@ -1,6 +1,8 @@
 /*
  * The proved step bench for C. Link target/staticlib/libkemilunda.a, which
- * `rt staticlib kemilunda` makes; it needs nothing else and keeps no state.
+ * `rt staticlib kemilunda` makes. It keeps no state, and asks the linker for
+ * memcpy, memset, memmove and memcmp at most (tests/link/run looks). A call of
+ * kemilunda_run takes some 5.5 KB of stack (docs/SPEED.md).
  *
  * Every function takes any bytes at all. What each one gives is proved; the
  * proofs are about the Rattle source, not about this file or the compiler.
@@ -30,7 +32,7 @@ enum {
     KEMILUNDA_ACCEPTED,    /* entries accepted */
     KEMILUNDA_REFUSAL,     /* the refusal that ended the run, or 0 */
     KEMILUNDA_LOADS,       /* loads begun */
-    KEMILUNDA_LOAD_STEPS,  /* accepted go entries in phases 1 to 5 */
+    KEMILUNDA_LOAD_STEPS,  /* steps that loads made, phases 1 to 5 */
     KEMILUNDA_TURNED_BACK, /* checks that turned a load back */
     KEMILUNDA_SWAPS,       /* swaps that took */
     KEMILUNDA_NUMBERS
@@ -42,11 +44,12 @@ enum {
  * A refused setup gives its number, and REPLIES and NUMBERS are left alone.
  * Otherwise the result is 0, NUMBERS holds the run's six numbers, and REPLIES
  * starts with 8 bytes for each entry that was tried: 41 4E, number, task,
- * value (4, the lowest byte first). The run stops at its first refused entry,
- * whose reply is the last. Bytes of REPLIES after the last reply are left
- * alone. A schedule above 65,530 bytes (23) and a reply buffer below 8 bytes
- * for each entry, a cut one included (21), are refused before any entry: then
- * no byte of REPLIES is written and five of the numbers are 0.
+ * value (4, the lowest byte first). An entry that is refused ends the run, with
+ * its number in the last of the replies; what REPLIES has behind it stays.
+ *
+ * Give REPLIES 8 bytes for every 10 of the schedule, or part of 10. With more
+ * than 65,530 bytes of schedule (23), or else with less room than that (21),
+ * no entry is tried: REPLIES stays, and all numbers but the refusal are 0.
  *
  * INPUT, REPLIES and NUMBERS must not overlap.
  */

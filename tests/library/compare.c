@@ -1,5 +1,5 @@
 /*
- * compare FIRST_SEED COUNT KEEP_DIR
+ * library FIRST_SEED COUNT KEEP_DIR
  *
  * Runs the library for C and the second program on one random input a seed,
  * in this process, with reply buffers of several sizes, and compares all that
@@ -237,7 +237,7 @@ int main(int argc, char **argv)
 
     if (argc != 4 || !number_argument(argv[1], &first) ||
         !number_argument(argv[2], &count)) {
-        fprintf(stderr, "usage: compare FIRST_SEED COUNT KEEP_DIR\n");
+        fprintf(stderr, "usage: library FIRST_SEED COUNT KEEP_DIR\n");
         return 2;
     }
     make_folder(argv[3]);

@@ -20,7 +20,7 @@ pub data Line : Type 0 where
   counts : List ℕ → Line
 
 -- a setup's bytes with the number of its answer, 0 where it is taken, and how many bytes it used; or a setup that is taken, and then a
--- schedule entry by entry on a bench
+-- schedule entry by entry on a bench, or the same as one run, with its six numbers
 pub data Row : Type 0 where
   sets : List ℕ → ℕ → ℕ → Row
   enters : Bench → List ℕ → List Line → Row

@@ -1,2 +1,1 @@
 // No code here: document 01's schedules by hand, as rows of one table.
-pub const VERSION: u8 = 1;

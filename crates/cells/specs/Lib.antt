@@ -1,4 +1,4 @@
 pub mod Types
 pub mod Machine
-pub mod Apply
 pub mod Setup
+pub mod Apply

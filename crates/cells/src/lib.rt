@@ -55,6 +55,122 @@ pub struct SetUp {
     pub answer: SetupAnswer,
 }
 
+// All zero, as before a setup fills it.
+fn blank() -> Machine
+    ensures { λ r. ⌜ r ≡ blankOf ⌝ }
+{
+    let t = tasks::idle_owning(NodeNo(0));
+    Machine {
+        n: 0,
+        p: 0,
+        k: 0,
+        cells: [0; 64],
+        values: [0; 128],
+        counts: [0; 128],
+        tasks: [t; 16],
+    }
+}
+
+// Task i owns node n+i.
+fn owners(n: u8, p: u8) -> [Task; 16]
+    requires { ⌜ (n ≤ 64) × (p ≤ 16) ⌝ }
+    ensures { λ r. ⌜ r ≡ fillTo (λ (i : ℕ). idleOwning (nodeNo (n + i))) p (replicate 16 noTask) ⌝ }
+{
+    let t = tasks::idle_owning(NodeNo(0));
+    let mut ts = [t; 16];
+    let mut i: u8 = 0;
+    while i < p {
+        let u = tasks::idle_owning(NodeNo(n + i));
+        let j = tables::slot(TaskNo(i));
+        ts[j] = u;
+        i += 1;
+    }
+    ts
+}
+
+// The machine that a setup's bytes s describe.
+fn fresh(n: u8, p: u8, k: u8, s: &[u8]) -> Machine
+    requires { ⌜ (n ≤ 64) × (p ≤ 16) ⌝ }
+    ensures { λ r. ⌜ r ≡ freshOf n p k (now (s .entry)) ⌝ }
+{
+    let mut m = blank();
+    m.n = n;
+    m.p = p;
+    m.k = k;
+    tables::point_cells(&mut m.cells, n);
+    tables::give_values(&mut m.values, s, n);
+    tables::count_ones(&mut m.counts, n + p);
+    let ts = owners(n, p);
+    m.tasks = ts;
+    m
+}
+
+// The length of a setup record for n cells.
+fn setup_len(n: u8) -> usize
+    ensures { λ r. ⌜ r ≡ 6 + 4 * n ⌝ }
+{
+    6 + 4 * (n as usize)
+}
+
+fn refused_setup(r: Refusal) -> SetUp
+    ensures { λ x. ⌜ x ≡ refusedSetup r ⌝ }
+{
+    SetUp {
+        machine: blank(),
+        answer: SetupAnswer::Refused(r),
+    }
+}
+
+impl Machine {
+    // The machine of a setup record's bytes. A refused one hands back a record of all zeros.
+    pub fn setup(s: &[u8]) -> SetUp
+        ensures { λ r. ⌜ r ≡ setupOf (now (s .entry)) ⌝ }
+    {
+        if s.len() < 6 {
+            return refused_setup(Refusal::TooShort);
+        }
+        if !wire::starts_with(s, wire::SETUP) {
+            return refused_setup(Refusal::WrongMark);
+        }
+        let spare = s[5];
+        if spare != 0 {
+            return refused_setup(Refusal::NotZero);
+        }
+        let n = s[2];
+        let p = s[3];
+        let k = s[4];
+        if !tables::sizes_ok(n, p, k) {
+            return refused_setup(Refusal::Sizes);
+        }
+        let used = setup_len(n);
+        if s.len() < used {
+            return refused_setup(Refusal::TooShort);
+        }
+        SetUp {
+            machine: fresh(n, p, k, s),
+            answer: SetupAnswer::Ready(used),
+        }
+    }
+}
+
+pub fn setup_number(a: SetupAnswer) -> u8
+    ensures { λ r. ⌜ r ≡ setupNumber a ⌝ }
+{
+    match a {
+        SetupAnswer::Ready(_) => 0,
+        SetupAnswer::Refused(r) => answers::refusal_number(r),
+    }
+}
+
+pub fn setup_bytes(a: SetupAnswer) -> usize
+    ensures { λ r. ⌜ r ≡ setupBytes a ⌝ }
+{
+    match a {
+        SetupAnswer::Ready(used) => used,
+        SetupAnswer::Refused(_) => 0,
+    }
+}
+
 // What an entry does to its task, and the task byte of its reply.
 pub struct Decision {
     pub task: u8,
@@ -243,121 +359,5 @@ impl Machine {
     {
         let ts = self.tasks;
         tasks::held_among(ts, self.p, v)
-    }
-}
-
-// All zero, as before a setup fills it.
-fn blank() -> Machine
-    ensures { λ r. ⌜ r ≡ blankOf ⌝ }
-{
-    let t = tasks::idle_owning(NodeNo(0));
-    Machine {
-        n: 0,
-        p: 0,
-        k: 0,
-        cells: [0; 64],
-        values: [0; 128],
-        counts: [0; 128],
-        tasks: [t; 16],
-    }
-}
-
-// Task i owns node n+i.
-fn owners(n: u8, p: u8) -> [Task; 16]
-    requires { ⌜ (n ≤ 64) × (p ≤ 16) ⌝ }
-    ensures { λ r. ⌜ r ≡ fillTo (λ (i : ℕ). idleOwning (nodeNo (n + i))) p (replicate 16 noTask) ⌝ }
-{
-    let t = tasks::idle_owning(NodeNo(0));
-    let mut ts = [t; 16];
-    let mut i: u8 = 0;
-    while i < p {
-        let u = tasks::idle_owning(NodeNo(n + i));
-        let j = tables::slot(TaskNo(i));
-        ts[j] = u;
-        i += 1;
-    }
-    ts
-}
-
-// The machine that a setup's bytes s describe.
-fn fresh(n: u8, p: u8, k: u8, s: &[u8]) -> Machine
-    requires { ⌜ (n ≤ 64) × (p ≤ 16) ⌝ }
-    ensures { λ r. ⌜ r ≡ freshOf n p k (now (s .entry)) ⌝ }
-{
-    let mut m = blank();
-    m.n = n;
-    m.p = p;
-    m.k = k;
-    tables::point_cells(&mut m.cells, n);
-    tables::give_values(&mut m.values, s, n);
-    tables::count_ones(&mut m.counts, n + p);
-    let ts = owners(n, p);
-    m.tasks = ts;
-    m
-}
-
-// The length of a setup record for n cells.
-fn setup_len(n: u8) -> usize
-    ensures { λ r. ⌜ r ≡ 6 + 4 * n ⌝ }
-{
-    6 + 4 * (n as usize)
-}
-
-fn refused_setup(r: Refusal) -> SetUp
-    ensures { λ x. ⌜ x ≡ refusedSetup r ⌝ }
-{
-    SetUp {
-        machine: blank(),
-        answer: SetupAnswer::Refused(r),
-    }
-}
-
-impl Machine {
-    // The machine of a setup record's bytes. A refused one hands back a record of all zeros.
-    pub fn setup(s: &[u8]) -> SetUp
-        ensures { λ r. ⌜ r ≡ setupOf (now (s .entry)) ⌝ }
-    {
-        if s.len() < 6 {
-            return refused_setup(Refusal::TooShort);
-        }
-        if !wire::starts_with(s, wire::SETUP) {
-            return refused_setup(Refusal::WrongMark);
-        }
-        let spare = s[5];
-        if spare != 0 {
-            return refused_setup(Refusal::NotZero);
-        }
-        let n = s[2];
-        let p = s[3];
-        let k = s[4];
-        if !tables::sizes_ok(n, p, k) {
-            return refused_setup(Refusal::Sizes);
-        }
-        let used = setup_len(n);
-        if s.len() < used {
-            return refused_setup(Refusal::TooShort);
-        }
-        SetUp {
-            machine: fresh(n, p, k, s),
-            answer: SetupAnswer::Ready(used),
-        }
-    }
-}
-
-pub fn setup_number(a: SetupAnswer) -> u8
-    ensures { λ r. ⌜ r ≡ setupNumber a ⌝ }
-{
-    match a {
-        SetupAnswer::Ready(_) => 0,
-        SetupAnswer::Refused(r) => answers::refusal_number(r),
-    }
-}
-
-pub fn setup_bytes(a: SetupAnswer) -> usize
-    ensures { λ r. ⌜ r ≡ setupBytes a ⌝ }
-{
-    match a {
-        SetupAnswer::Ready(used) => used,
-        SetupAnswer::Refused(_) => 0,
     }
 }

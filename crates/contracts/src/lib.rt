@@ -1,2 +1,1 @@
 // No code here: what it means that a contract allows one result.
-pub const VERSION: u8 = 1;

@@ -1,4 +1,4 @@
--- An entry's ten bytes: the mark, task, kind, cell, a zero byte, value (4).
+-- An entry's ten bytes: the mark, task, kind, cell, a zero byte, value (4); which of them must be zero (15), and which cells there are (14).
 use Prim.Native.Nat.{ℕ}
 use mathlib.Core.Bool.{Bool, cond, not, _&&_, _||_}
 use mathlib.Core.List.{List}
@@ -7,7 +7,7 @@ use lib.ListN.{length, getD}
 use Rattle.wire.specs.Bytes.{entryMark, marked, wordAt}
 use Rattle.entries.specs.Types.{WrongMark, TooShort, Entry, EntryRead, Whole, Refused}
 
--- the bytes from the front of s, and what is refused before they are read as an entry
+-- the entry at the front of s, or why there is none
 unfoldable pub entryOf : List ℕ → EntryRead
 entryOf s =
     cond (ltb (length s) 10) (Refused TooShort)  -- 20
@@ -26,8 +26,8 @@ abbrev pub names : ℕ → Bool
 names kind = eqb kind 1 || eqb kind 2
 
 -- a byte that must be zero isn't: the spare byte; the cell of go and release; the value of all but store
-unfoldable pub padded : Entry → Bool
-padded e =
+unfoldable pub nonzero : Entry → Bool
+nonzero e =
     not (eqb (e .spare) 0)
     || (not (names (e .kind)) && not (eqb (e .cell .0) 0))
     || (not (eqb (e .kind) 2) && not (eqb (e .value) 0))

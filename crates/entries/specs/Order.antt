@@ -5,7 +5,7 @@ use lib.Dec.{eqb, leb, ltb}
 use Rattle.tasks.specs.Calls.{begunOf}
 use Rattle.steps.specs.Table.{does, effectOf}
 use Rattle.entries.specs.Types.{CellNo, Task, Call, Load, Store, Release, Moved, NoTask, NoKind, NoCell, NotZero, NotNow, OtherCell, Seen, Nothing, Effect, Refuses, Entry}
-use Rattle.entries.specs.Entry.{padded, outside}
+use Rattle.entries.specs.Entry.{nonzero, outside}
 
 -- a call starts: one task's record changes, and nothing else
 abbrev pub begins : Task → Call → Effect
@@ -43,6 +43,6 @@ unfoldable pub orderOf : ℕ → ℕ → Entry → Task → Seen → Effect
 orderOf n p e t s =
     cond (leb p (e .task .0)) (Refuses NoTask)  -- 12
     (cond (ltb 3 (e .kind)) (Refuses NoKind)  -- 13
-    (cond (padded e) (Refuses NotZero)  -- 15
+    (cond (nonzero e) (Refuses NotZero)  -- 15
     (cond (outside n e) (Refuses NoCell)  -- 14
     (callOf e t s))))  -- 16 or 17, 18, 22 (the step)

@@ -10,7 +10,7 @@ use tasks::CellNo;
 use tasks::Task;
 use tasks::TaskNo;
 ghost use mathlib.Core.Path.{_≡_};
-ghost use Rattle.entries.specs.Entry.{entryOf, padded, outside};
+ghost use Rattle.entries.specs.Entry.{entryOf, nonzero, outside};
 ghost use Rattle.entries.specs.Order.{begins, loadOf, storeOf, releaseOf, callOf, orderOf};
 
 pub struct Entry {
@@ -47,8 +47,8 @@ pub fn read_entry(s: &[u8]) -> EntryRead
 }
 
 // Whether a byte that must be zero isn't (15).
-fn padded(e: Entry) -> bool
-    ensures { λ r. ⌜ r ≡ padded e ⌝ }
+fn nonzero(e: Entry) -> bool
+    ensures { λ r. ⌜ r ≡ nonzero e ⌝ }
 {
     let kind = e.kind;
     let cell = e.cell.0;
@@ -147,7 +147,7 @@ pub fn order(n: u8, p: u8, e: Entry, t: Task, s: Seen) -> Effect
     if 3 < kind {
         return Effect::Refuses(Refusal::NoKind);
     }
-    if padded(e) {
+    if nonzero(e) {
         return Effect::Refuses(Refusal::NotZero);
     }
     if outside(n, e) {

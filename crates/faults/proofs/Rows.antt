@@ -11,7 +11,7 @@ use Rattle.steps.specs.Table.{rows, beyond, effectOf}
 use Rattle.entries.specs.declared.Entry.{Entry}
 use Rattle.entries.specs.declared.EntryRead.{EntryRead}
 use Rattle.entries.specs.declared.EntryRead.the-variants.{Whole, Refused as Unread}
-use Rattle.entries.specs.Entry.{entryOf, padded, outside}
+use Rattle.entries.specs.Entry.{entryOf, nonzero, outside}
 use Rattle.entries.specs.Order.{callOf, orderOf}
 use Rattle.tables.specs.Tables.{taskIn}
 use Rattle.cells.specs.declared.Machine.{Machine}
@@ -37,7 +37,7 @@ step-own m e h =
     let h₂ = both (eqb (e .kind) 0) _ (h₁ .1) in
     rw (
       lt-leb (m .p) (e .task .0) (ltb-true _ _ (h₁ .0)),
-      not-true (padded e) (h₂ .1),
+      not-true (nonzero e) (h₂ .1),
       eqb-true (e .kind) 0 (h₂ .0),
       List·getD-map asWritten rows (taskIn (m .tasks) (e .task) .phase) beyond,
     )

@@ -17,7 +17,7 @@ use Rattle.tables.specs.Tables.{nodeIn, valueIn, taskIn, sizesOk}
 use Rattle.entries.specs.declared.Entry.{Entry}
 use Rattle.entries.specs.declared.EntryRead.{EntryRead}
 use Rattle.entries.specs.declared.EntryRead.the-variants.{Whole, Refused as Unread}
-use Rattle.entries.specs.Entry.{entryOf, padded, outside}
+use Rattle.entries.specs.Entry.{entryOf, nonzero, outside}
 use Rattle.entries.specs.Order.{loadOf, storeOf, releaseOf, callOf, orderOf}
 use Rattle.cells.specs.declared.Machine.{Machine}
 use Rattle.cells.specs.declared.Applied.{Applied}
@@ -44,7 +44,7 @@ stepBy rs m e = let t = taskIn (m .tasks) (e .task) in carriedOf m (e .task) (ge
 
 -- a go of a task below P, with zeros where they must be
 abbrev pub goes : Machine → Entry → Bool
-goes m e = ltb (e .task .0) (m .p) && (eqb (e .kind) 0 && not (padded e))
+goes m e = ltb (e .task .0) (m .p) && (eqb (e .kind) 0 && not (nonzero e))
 
 -- a go by the given rows, every other entry as ever
 abbrev pub readBy : List Row → Machine → List ℕ → EntryRead → Applied
@@ -107,5 +107,5 @@ comparing = record { apply = applyBy (set table 8 s2ByValue); passes = λ f f′
 
 -- for `unfolding` lines: all that a setup and an entry compute with, and the four benches
 unfoldable pub computing : Unit {0}
-unfolding every fillTo marked wordAt taskOk rows effectOf after raisedOf loweredOf sizesOk entryOf padded outside loadOf storeOf releaseOf callOf orderOf carriedOf inRange judgedOf decisionOf applyOf freshOf setupOf mended printed rereading comparing
+unfolding every fillTo marked wordAt taskOk rows effectOf after raisedOf loweredOf sizesOk entryOf nonzero outside loadOf storeOf releaseOf callOf orderOf carriedOf inRange judgedOf decisionOf applyOf freshOf setupOf mended printed rereading comparing
 computing = tt

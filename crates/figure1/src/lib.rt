@@ -1,2 +1,1 @@
 // No code here: figure 1 of source 000 as definitions, and what it means that an engine follows it.
-pub const VERSION: u8 = 1;

@@ -18,7 +18,7 @@ use Rattle.steps.specs.declared.Effect.the-variants.{Does, Refuses}
 use Rattle.steps.specs.Table.{rows, effectOf}
 use Rattle.entries.specs.declared.Entry.{Entry}
 use Rattle.entries.specs.declared.EntryRead.{EntryRead}
-use Rattle.entries.specs.Entry.{entryOf, padded, outside}
+use Rattle.entries.specs.Entry.{entryOf, nonzero, outside}
 use Rattle.entries.specs.Order.{loadOf, storeOf, releaseOf, callOf, orderOf}
 use Rattle.tables.specs.Tables.{taskIn}
 use Rattle.cells.specs.declared.Machine.{Machine}
@@ -65,11 +65,11 @@ module _ (m : Machine) (K : Kept m) (e : List ℕ) where
         at-most (store k c f6) = omega arith
         at-most (release k c y f6) = omega arith
 
-    zeros : padded entry ≡ false
-    unfolding padded
+    zeros : nonzero entry ≡ false
+    unfolding nonzero
     zeros = by-kind (f .asks)
       where
-        by-kind : May m e → padded entry ≡ false
+        by-kind : May m e → nonzero entry ≡ false
         by-kind (go k c y f0 f6) = rw (f .zero, k, c, y)
         by-kind (load k c y f0) = rw (f .zero, k, y)
         by-kind (store k c f6) = rw (f .zero, k)
@@ -111,7 +111,7 @@ module _ (m : Machine) (K : Kept m) (e : List ℕ) where
         (λ w. by-test Read (not (marked entryMark e)) _ _ (λ x. absurd (false≢true (sym (not-true _ x) ∙ f .mark)))
         (λ x. by-test Taken (leb (m .p) (getD e 2 0)) _ _ (λ a. absurd (omega (arith, f .task, leb-true (m .p) (getD e 2 0) a)))
         (λ a. by-test Taken (ltb 3 (kindOf e)) _ _ (λ b. absurd (omega (arith, kinds, ltb-true 3 (kindOf e) b)))
-        (λ b. by-test Taken (padded entry) _ _ (λ c. absurd (false≢true (sym zeros ∙ c)))
+        (λ b. by-test Taken (nonzero entry) _ _ (λ c. absurd (false≢true (sym zeros ∙ c)))
         (λ c. by-test Taken (outside (m .n) entry) _ _ (λ d. absurd (false≢true (sym within ∙ d))) (λ d. called (f .asks))))))))
 
   -- what a reply tells of the entry
@@ -131,8 +131,8 @@ module _ (m : Machine) (K : Kept m) (e : List ℕ) where
   unfolding effectOf rows carriedOf
   not-linked h q = false≢true (rw q at h)
 
-  told : kindOf e ≤ 3 → padded entry ≡ false → outside (m .n) entry ≡ false → Told (callOf entry t (seenOf m t))
-  unfolding callOf loadOf storeOf releaseOf padded outside
+  told : kindOf e ≤ 3 → nonzero entry ≡ false → outside (m .n) entry ≡ false → Told (callOf entry t (seenOf m t))
+  unfolding callOf loadOf storeOf releaseOf nonzero outside
   told h3 hz hn =
       by-test Told (eqb (kindOf e) 0) _ _
       (λ k h. let z = (rw (eqb-true (kindOf e) 0 k) at hz) in
@@ -156,8 +156,8 @@ module _ (m : Machine) (K : Kept m) (e : List ℕ) where
       value-zero : (not (eqb (getD e 5 0) 0) || not (eqb (getD e 4 0) 0) || not (eqb (wordAt e 6) 0)) ≡ false → wordAt e 6 ≡ 0
       value-zero z = is-zero (wordAt e 6) (neither (not (eqb (getD e 5 0) 0) || not (eqb (getD e 4 0) 0)) (not (eqb (wordAt e 6) 0)) z .1)
 
-  byte-zero : padded entry ≡ false → getD e 5 0 ≡ 0
-  unfolding padded
+  byte-zero : nonzero entry ≡ false → getD e 5 0 ≡ 0
+  unfolding nonzero
   byte-zero z = is-zero (getD e 5 0) (neither _ _ (neither _ _ z .0) .0)
 
   pub fits : accepted (applyOf m e .answer) ≡ true → Fits m e
@@ -168,7 +168,7 @@ module _ (m : Machine) (K : Kept m) (e : List ℕ) where
       (λ w. by-test (λ (r : EntryRead). Read r → Fits m e) (not (marked entryMark e)) _ _ (λ x h. absurd (false≢true h))
       (λ x. by-test Fit (leb (m .p) (getD e 2 0)) _ _ (λ a. no NoTask)
       (λ a. by-test Fit (ltb 3 (kindOf e)) _ _ (λ b. no NoKind)
-      (λ b. by-test Fit (padded entry) _ _ (λ c. no NotZero)
+      (λ b. by-test Fit (nonzero entry) _ _ (λ c. no NotZero)
       (λ c. by-test Fit (outside (m .n) entry) _ _ (λ d. no NoCell)
       (λ d h. record {
         whole = ltb-false (length e) 10 w;

@@ -22,7 +22,7 @@ use Rattle.steps.specs.declared.Effect.the-variants.{Does, Refuses}
 use Rattle.steps.specs.Table.{effectOf}
 use Rattle.entries.specs.declared.Entry.{Entry}
 use Rattle.entries.specs.declared.EntryRead.{EntryRead}
-use Rattle.entries.specs.Entry.{entryOf, padded, outside}
+use Rattle.entries.specs.Entry.{entryOf, nonzero, outside}
 use Rattle.entries.specs.Order.{loadOf, storeOf, releaseOf, callOf, orderOf}
 use Rattle.tables.specs.Tables.{taskIn}
 use Rattle.cells.specs.declared.Machine.{Machine}
@@ -97,7 +97,7 @@ module _ (m : Machine) (e : List ℕ) where
       (λ w. by-test Read (not (marked entryMark e)) _ _ (λ x. other 0 WrongMark (omega arith))
       (λ x. by-test Out (leb (m .p) (getD e 2 0)) _ _ (λ a. no NoTask (omega arith))
       (λ a. by-test Out (ltb 3 kind) _ _ (λ b. no NoKind (omega arith))
-      (λ b. by-test Out (padded (entry (getD e 5 0))) _ _ (λ c. no NotZero (omega arith))
+      (λ b. by-test Out (nonzero (entry (getD e 5 0))) _ _ (λ c. no NotZero (omega arith))
       (λ c. by-test Out (outside (m .n) (entry (getD e 5 0))) _ _ (λ d. no NoCell (omega arith))
       (λ d. call (getD e 5 0) (leb-false _ _ a) (ltb-false 3 kind b) d)))))))
 
@@ -126,5 +126,5 @@ refused-leaves m e =
 -- a task's go, in a record that is in range, is its step
 pub go-steps : (m : Machine) (p : ℕ) → inRange m ≡ true → p < m .p
     → applyOf m (goBytes p) ≡ carriedOf m (record { 0 = p }) (effectOf (getD (m .tasks) p noTask) (seenOf m (getD (m .tasks) p noTask)))
-unfolding applyOf decisionOf judgedOf orderOf callOf entryOf marked padded wordAt outside
+unfolding applyOf decisionOf judgedOf orderOf callOf entryOf marked nonzero wordAt outside
 go-steps m p r h = rw (r, lt-leb (m .p) p h) refl

@@ -19,7 +19,7 @@ use Rattle.answers.specs.declared.Reply.the-variants.{Moved, Loaded, Took, Lost
 use Rattle.tasks.specs.Records.{taskOk}
 use Rattle.steps.specs.Table.{after, raisedOf, loweredOf, rows, effectOf}
 use Rattle.tables.specs.Tables.{sizesOk}
-use Rattle.entries.specs.Entry.{entryOf, padded, outside}
+use Rattle.entries.specs.Entry.{entryOf, nonzero, outside}
 use Rattle.entries.specs.Order.{loadOf, storeOf, releaseOf, callOf, orderOf}
 use Rattle.cells.specs.declared.Machine.{Machine}
 use Rattle.cells.specs.declared.SetupAnswer.the-variants.{Ready}
@@ -100,7 +100,7 @@ record Computed : Type 0 where
   busy : used (applied fresh (case10 ++ gos 8 1)) ≡ 4
 
 computed : Computed
-unfolding total over applied applyOf decisionOf judgedOf orderOf callOf loadOf storeOf releaseOf entryOf padded outside marked wordAt carriedOf inRange sizesOk every taskOk effectOf rows after raisedOf loweredOf setupOf freshOf fillTo
+unfolding total over applied applyOf decisionOf judgedOf orderOf callOf loadOf storeOf releaseOf entryOf nonzero outside marked wordAt carriedOf inRange sizesOk every taskOk effectOf rows after raisedOf loweredOf setupOf freshOf fillTo
 computed =
     record { steps = refl; most = refl; loaded = refl; loads = refl; stores = refl; took = refl; count = refl; probing = refl; busy = refl }
 

@@ -1,2 +1,1 @@
 // No code here: what holds of every record and every schedule, over the definitions that the public contracts cite.
-pub const VERSION: u8 = 1;

@@ -13,7 +13,7 @@ use Rattle.cells.proofs.Decide.{decidedOn, Known, applied, applied-does, named}
 use Rattle.runs.specs.Types.{Machine, Applied, Task, Effect, Deed, Does, Refuses, Decision, Report}
 use Rattle.runs.specs.Counts.{accepted, kindOf, taskOf}
 use Rattle.runs.specs.Run.{counted, replyBytes}
-use Rattle.runs.specs.Turn.{countedBy, toldOf, decisionBytes}
+use Rattle.runs.specs.OneEntry.{countedBy, toldOf, decisionBytes}
 use Rattle.runs.proofs.Laws.{counted-by}
 
 carried-bytes : (m : Machine) (i : ℕ) (e : Effect) → replyBytes (carriedOf m (record { 0 = i }) e) ≡ decisionBytes (record { task = i; effect = e })

@@ -15,7 +15,7 @@ use Rattle.cells.proofs.Decide.{decidedOn, Known, applied-refuses, applied-does
 use Rattle.runs.specs.Types.{Machine, Report, Applied, Task, Refusal, Deed, Does, Refuses, Decision}
 use Rattle.runs.specs.Counts.{accepted, kindOf, taskOf}
 use Rattle.runs.specs.Run.{entriesIn, entriesOf, cut, counted, reportOf, refusedAt, ranFrom, replyBytes, repliesFrom}
-use Rattle.runs.specs.Turn.{Going, toldOf, decisionBytes}
+use Rattle.runs.specs.OneEntry.{Going, toldOf, decisionBytes}
 use Rattle.runs.proofs.Decision.{decision-bytes, decision-accepted, decision-counted}
 use Rattle.runs.proofs.Laws.{counted-by, few-more, cut-next, cut-none, ran-on, ran-stops, ran-ends, replies-on, replies-stop, replies-end, over-none, over-more}
 

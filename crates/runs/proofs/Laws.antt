@@ -16,7 +16,7 @@ use Rattle.cells.specs.Apply.{applyOf}
 use Rattle.runs.specs.Types.{Machine, Report}
 use Rattle.runs.specs.Counts.{accepted, kindOf, taskOf}
 use Rattle.runs.specs.Run.{cut, counted, refusedAt, ranFrom, replyBytes, repliesFrom}
-use Rattle.runs.specs.Turn.{loadBegun, loadStep, wentOf, countedBy, Few}
+use Rattle.runs.specs.OneEntry.{loadBegun, loadStep, wentOf, countedBy, Few}
 
 -- an accepted entry counts by its kind and its task's phases
 pub counted-by : (m : Machine) (e : List ℕ) (r : Report) → accepted (applyOf m e .answer) ≡ true

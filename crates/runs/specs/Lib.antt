@@ -1,4 +1,4 @@
 pub mod Types
 pub mod Counts
 pub mod Run
-pub mod Turn
+pub mod OneEntry

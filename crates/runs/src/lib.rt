@@ -9,7 +9,7 @@ ghost use Prim.Native.Nat.{_+_, _*_, _≤_, min};
 ghost use lib.ListN.{length};
 ghost use Rattle.wire.specs.Bytes.{overlaid};
 ghost use Rattle.runs.specs.Run.{entriesIn, entriesOf, repliesFrom, reportOf, ranFrom, untriedOf, ranOf, bufferOf};
-ghost use Rattle.runs.specs.Turn.{loadBegun, loadStep, wentOf, countedBy, Few, toldOf, decisionBytes};
+ghost use Rattle.runs.specs.OneEntry.{loadBegun, loadStep, wentOf, countedBy, Few, toldOf, decisionBytes};
 
 // Entries accepted, the refusal or 0, loads begun, load steps, turned-back checks, swaps that took: all for one run.
 pub struct Report {

@@ -101,7 +101,7 @@ fn put_end(text: &mut [u8], at: usize, r: Report) -> usize
     put_bytes(text, c, b"\n")
 }
 
-// How many replies a run wrote: one an accepted entry, and one for the entry that was refused. Refusals 21 and 23 are no entry's.
+// How many replies a run wrote: one an accepted entry, and one for the entry that was refused. Refusals 21 and 23 are no entry's; 22 by the ranges can't come, as the record is fresh.
 fn replies_in(r: Report) -> u32
     ensures { λ n. ⌜ n ≤ 65535 ⌝ }
 {

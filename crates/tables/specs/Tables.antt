@@ -1,4 +1,4 @@
--- What the tables hold, and the ranges of each (refusal 22).
+-- What the tables hold, the ranges of each (refusals 11 and 22), and where a setup's bytes have a value.
 use Prim.Native.Nat.{ℕ, _+_, _*_}
 use mathlib.Core.Bool.{Bool, cond, _&&_}
 use mathlib.Core.List.{List}

@@ -150,8 +150,8 @@ pub fn tasks_ok(tasks: [Task; 16], n: u8, p: u8, k: u8) -> bool
         if 16 <= i {
             return true;
         }
-        let at = i as usize;
-        let t = tasks[at];
+        let j = slot(TaskNo(i));
+        let t = tasks[j];
         if !t.in_range(n, k) {
             return false;
         }

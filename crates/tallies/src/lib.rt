@@ -1,2 +1,1 @@
 // No code here: counting, and lists that are tested or filled place by place.
-pub const VERSION: u8 = 1;

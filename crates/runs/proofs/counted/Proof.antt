@@ -1,6 +1,6 @@
 -- `counted`: each number goes up by at most one, so it fits. Assumes nothing.
 use native.Mathlib.Omega.{arith}
-use Rattle.runs.specs.Turn.{countedBy}
+use Rattle.runs.specs.OneEntry.{countedBy}
 use Rattle.runs.proofs.Laws.{begun-le, step-le, went-le}
 use borrow.Author.Needs.{needs}
 use Rattle.runs.proofs.counted.Statement.{statement}

@@ -1,6 +1,6 @@
 -- `load_step`: each way to the end says how the tests came out. Assumes nothing.
 use borrow.Author.Tests.{eq-eqb, ne-eqb, le-leb, lt-leb}
-use Rattle.runs.specs.Turn.{loadStep}
+use Rattle.runs.specs.OneEntry.{loadStep}
 use Rattle.runs.proofs.load_step.Statement.{statement}
 use Rattle.runs.proofs.load_step.Tie as tie
 

@@ -1,6 +1,6 @@
 -- `went`: each way to the end says how the tests came out. Assumes nothing.
 use borrow.Author.Tests.{eq-eqb, ne-eqb}
-use Rattle.runs.specs.Turn.{wentOf}
+use Rattle.runs.specs.OneEntry.{wentOf}
 use Rattle.runs.proofs.went.Statement.{statement}
 use Rattle.runs.proofs.went.Tie as tie
 
