@@ -21,20 +21,21 @@ use Rattle.runs.specs.Run.{entriesIn, entriesOf, replyBytes, repliesOf, untried
 use Rattle.figure1.specs.Figure1.{Call, Result}
 use Rattle.figure1.specs.Histories.{State, Event, begins, ends, after, afterAll, Follows, start}
 use Rattle.figure1.specs.Counts.{beginsBy, actsBy, endsBy, number}
+use Rattle.figure1.specs.Calls.{Acted, Called}
 use Rattle.figure1.specs.Engine.{history}
 use Rattle.figure1.proofs.Lift.{follows-split}
-use Rattle.figure1.proofs.Once.{Acted, Called, finished, unfinished, in-order, cells-stay}
+use Rattle.figure1.proofs.Once.{finished, unfinished, in-order, cells-stay}
 use Rattle.laws.specs.Acts.{Matches, finishes, eventsOf}
-use Rattle.laws.specs.Schedules.{applied, tried, Reached, over}
+use Rattle.laws.specs.Schedules.{applied, tried, before, entry, Reached, Scheduled, over}
 use Rattle.laws.specs.Beyond.{Bare, Alike, Alike-after}
 use Rattle.laws.proofs.Entries.{Outcome, outcome, Steps, refused-leaves}
 use Rattle.laws.proofs.Rows.{Moves, moves}
 use Rattle.laws.proofs.Start.{setup-kept, setup-blank}
 use Rattle.laws.proofs.Runs.{run-damaged, run-long, run-no-room, run-tries, buffer-length, buffer-past}
-use Rattle.laws.proofs.Reached.{schedule-keeps, reached-kept, Scheduled, scheduled}
+use Rattle.laws.proofs.Reached.{schedule-keeps, reached-kept, scheduled}
 use Rattle.laws.proofs.Beyond.{reached-bare, entry-alike}
 use Rattle.laws.proofs.Damage.{in-range, entry-undamaged, run-undamaged}
-use Rattle.laws.proofs.Engine.{pool, follows, matches, answered, before, entry, replies-follow}
+use Rattle.laws.proofs.Engine.{pool, follows, matches, answered, replies-follow}
 use lib.Dec.{T, eqb}
 use Rattle.tallies.specs.Lists.{within}
 use Rattle.tallies.specs.Tally.{tally}
