@@ -42,6 +42,7 @@ use Rattle.tallies.specs.Tally.{tally}
 use Rattle.tasks.specs.Records.{nodeNo, noTask}
 use Rattle.tasks.specs.Holders.{heldAmong, holdersValue}
 use Rattle.laws.specs.Meaning.{points, owns, swapped, used, free}
+use Rattle.laws.specs.Small as Small
 use Rattle.laws.specs.Solo.{Within}
 use Rattle.laws.specs.Numbers.{numbersOf, startRefusal, triedBy, overRuns, triedAll}
 use Rattle.laws.proofs.Room.{count-most, two-free}
@@ -182,8 +183,8 @@ module _ (s : List ℕ) (bytes : ℕ) (ok : setupOf s .answer ≡ Ready bytes) w
   reported-steps rs = rw (chain-steps rs m, chain-loads rs m, chain-swaps rs m) (load-bound anywhere s bytes ok (triedAll m rs))
 
 -- the bound is met: 12 steps for 2 loads and 1 swap by one other task (Sharp)
-pub load-steps-met : (over (stepsAt anywhere) Sharp.fresh (Sharp.case11 ++ Sharp.gos 7 0) ≡ 12)
-    × (4 * over (loadsAt anywhere) Sharp.fresh (Sharp.case11 ++ Sharp.gos 7 0) + 4 * ((Sharp.fresh .p - 1) * over (swapsAt anywhere) Sharp.fresh (Sharp.case11 ++ Sharp.gos 7 0)) ≡ 12)
+pub load-steps-met : (over (stepsAt anywhere) Small.fresh (Small.case11 ++ Small.gos 7 0) ≡ 12)
+    × (4 * over (loadsAt anywhere) Small.fresh (Small.case11 ++ Small.gos 7 0) + 4 * ((Small.fresh .p - 1) * over (swapsAt anywhere) Small.fresh (Small.case11 ++ Small.gos 7 0)) ≡ 12)
 load-steps-met = Sharp.bound-met
 
 -- a run's record and its six numbers are those of the entries that it tries (Numbers)
@@ -221,10 +222,10 @@ module _ {m : Machine} (r : Reached m) (p : ℕ) (h : p < m .p) where
   room-to-store = two-free m (reached-kept r) p h
 
 -- in the records of cases 11 and 10, neither 6 steps are enough for the load nor N + 2P + 2 = 7 for the store (Sharp)
-pub load-ends-met : Within 6 (applied Sharp.fresh Sharp.case11) 0 → ⊥
+pub load-ends-met : Within 6 (applied Small.fresh Small.case11) 0 → ⊥
 load-ends-met = Sharp.load-met
 
-pub store-ends-met : Within 7 (applied Sharp.fresh Sharp.case10) 1 → ⊥
+pub store-ends-met : Within 7 (applied Small.fresh Small.case10) 1 → ⊥
 store-ends-met = Sharp.store-met
 
 -- THE POOL. Of every record reached: no count passes P + 1 (Room), and at most N + 2P - 1 nodes are in use (Busy), one less than K must be.

@@ -29,7 +29,8 @@ use Rattle.cells.specs.declared.Machine.{Machine}
 use Rattle.cells.specs.Machine.{seenOf, written, carriedOf}
 use Rattle.cells.specs.Apply.{applyOf}
 use Rattle.laws.specs.Meaning.{Kept}
-use Rattle.laws.specs.Solo.{goBytes, Finished, Within}
+use Rattle.laws.specs.Bytes.{go}
+use Rattle.laws.specs.Solo.{Finished, Within}
 use Rattle.laws.proofs.Phases.{by-phase, either}
 use Rattle.laws.proofs.Entries.{go-steps}
 use Rattle.laws.proofs.Keeps.{task, in-list, in-counts}
@@ -102,7 +103,7 @@ unfolding Within
 more zero k m p h w = absurd w
 more (suc n) zero m p h w = absurd (omega arith)
 more (suc n) (suc k) m p h (inl f) = inl f
-more (suc n) (suc k) m p h (inr w) = inr (w .0, more n k (applyOf m (goBytes p) .machine) p (omega arith) (w .1))
+more (suc n) (suc k) m p h (inr w) = inr (w .0, more n k (applyOf m (go p) .machine) p (omega arith) (w .1))
 
 module _ (p : ℕ) where
   abbrev stepped : Machine → Deed → Machine
