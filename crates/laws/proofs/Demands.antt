@@ -228,6 +228,10 @@ load-ends-met = Sharp.load-met
 pub store-ends-met : Within 7 (applied Small.fresh Small.case10) 1 → ⊥
 store-ends-met = Sharp.store-met
 
+-- and no more than two nodes are free where task 1 begins to look for one in case 10, after its five steps S1 to S5 (Sharp)
+pub room-to-store-met : free (applied Small.fresh (Small.case10 ++ Small.gos 5 1)) ≡ 2
+room-to-store-met = Sharp.free-met
+
 -- THE POOL. Of every record reached: no count passes P + 1 (Room), and at most N + 2P - 1 nodes are in use (Busy), one less than K must be.
 module _ {m : Machine} (r : Reached m) where
   pub count-limit : (i : ℕ) → i < m .k → getD (m .counts) i 0 ≤ m .p + 1
@@ -235,6 +239,14 @@ module _ {m : Machine} (r : Reached m) where
 
   pub used-limit : used m + 1 ≤ m .n + 2 * m .p
   used-limit = busy-most r
+
+-- in case 10 node 0, which the cell points at and both tasks hold, has the count P + 1 = 3 (Sharp)
+pub count-limit-met : getD (applied Small.fresh Small.case10 .counts) 0 0 ≡ 3
+count-limit-met = Sharp.count-met
+
+-- and after task 1's store N + 2P - 1 = 4 nodes are in use (Sharp)
+pub used-limit-met : used (applied Small.fresh (Small.case10 ++ Small.gos 8 1)) ≡ 4
+used-limit-met = Sharp.busy-met
 
 -- WHAT A COUNT IS, for whoever asks what a node is owed: the cells, owners and holders that document 01's holders question counts (Counts).
 pub node-owed : {m : Machine} → Reached m → (i : ℕ) → i < m .k
