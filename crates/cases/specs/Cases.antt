@@ -2,7 +2,8 @@
 use Prim.Native.Nat.{ℕ}
 use mathlib.Core.List.{List, [], _∷_, _++_}
 use lib.ListN.{replicate}
-use Rattle.faults.specs.Bytes.{setup, go, load, store, release, small}
+use Rattle.laws.specs.Bytes.{setup, go, load, store, release}
+use Rattle.laws.specs.Small.{small}
 use Rattle.faults.specs.Benches.{mended, printed}
 use Rattle.cases.specs.Rows.{Row, sets, enters, runs, gives, counts, moves, loads, stores}
 

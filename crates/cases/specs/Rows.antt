@@ -11,7 +11,7 @@ use Rattle.cells.specs.declared.SetupAnswer.{SetupAnswer}
 use Rattle.cells.specs.Setup.{setupOf, setupNumber, setupBytes}
 use Rattle.wire.specs.Bytes.{replyOf}
 use Rattle.runs.specs.Run.{sixOf, ranOf, repliesOf}
-use Rattle.faults.specs.Bytes.{go, load, store}
+use Rattle.laws.specs.Bytes.{go, load, store}
 use Rattle.faults.specs.Benches.{Bench}
 
 -- a line of a schedule by hand: an entry's bytes with its reply's number, task and value; or the counts of the nodes below K at that point

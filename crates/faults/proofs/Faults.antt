@@ -8,10 +8,11 @@ use lib.ListN.{take}
 use Rattle.answers.specs.declared.Answer.the-variants.{Replied}
 use Rattle.answers.specs.declared.Reply.the-variants.{Loaded, Took, Lost}
 use Rattle.figure1.specs.Histories.{Follows}
-use Rattle.faults.specs.Bytes.{go}
+use Rattle.laws.specs.Bytes.{go}
+use Rattle.laws.specs.Small.{fresh}
 use Rattle.faults.specs.Benches.{mended, printed, rereading, comparing, computing}
 use Rattle.faults.specs.Histories.{afterwards, answered, history}
-use Rattle.faults.specs.Schedules.{fresh, atStart, cellAfter, cellDue, oldCopy, itsStore, staleLink, sameValue}
+use Rattle.faults.specs.Schedules.{atStart, cellAfter, cellDue, oldCopy, itsStore, staleLink, sameValue}
 use Rattle.faults.proofs.Legal.{follows-legal, legal-follows}
 
 -- THE PRINTED ORDER. Entry 23 is task 1's check. It passes, so the load acts there and figure 1 gives it 11; the load ends with 7, a copy

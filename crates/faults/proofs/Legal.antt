@@ -4,6 +4,7 @@ use mathlib.Core.Path.{_≡_, refl, sym, _∙_, ap, ap₂}
 use mathlib.Core.Bool.{Bool, true, false, cond, _&&_}
 use mathlib.Core.List.{List, [], _∷_}
 use lib.Dec.{T, eqb, eqb-refl, eqb→eq}
+use Rattle.tallies.proofs.Lists.{each}
 use Rattle.figure1.specs.Figure1.{Result, value, took, lost, released}
 use Rattle.figure1.specs.Histories.{Status, quiet, asked, acted, State, Event, begins, acts, ends, Legal, Waiting, after, Follows}
 
@@ -52,10 +53,6 @@ legal a (e ∷ es) = allowed a e && legal (after a e) es
 both : (a b : Bool) → T a → T b → T (a && b)
 both true b h k = k
 both false b h k = absurd h
-
-each : (a b : Bool) → T (a && b) → T a × T b
-each true b h = (tt, h)
-each false b h = absurd h
 
 -- a result is made of its kind and its value
 abbrev resultOf : ℕ → ℕ → Result

@@ -1,12 +1,10 @@
 -- What a schedule does in figure 1's terms, under any bench: each call begins with its accepted entry, acts at one step, ends with its reply.
 use Prim.Native.Nat.{ℕ}
-use mathlib.Core.Bool.{Bool, _||_}
 use mathlib.Core.List.{List, [], _∷_, _++_}
-use lib.Dec.{eqb}
 use Rattle.answers.specs.declared.Answer.{Answer}
 use Rattle.cells.specs.declared.Machine.{Machine}
 use Rattle.figure1.specs.Histories.{Event}
-use Rattle.laws.specs.Acts.{eventsIn}
+use Rattle.laws.specs.Acts.{actsWhere, eventsIn}
 use Rattle.faults.specs.Benches.{Bench}
 
 -- the record after a schedule
@@ -19,13 +17,9 @@ unfoldable pub answered : Bench → Machine → List (List ℕ) → List ℕ →
 unfolding afterwards
 answered b m es e = b .apply (afterwards b m es) e .answer
 
--- a step acts: a load at its passing check, a store at its swap (S2, took or not), a release at its one step (R1)
-abbrev pub actsFrom : Bench → ℕ → ℕ → Bool
-actsFrom b f f′ = b .passes f f′ || (eqb f 8 || eqb f 14)
-
--- the events of an entry
+-- the events of an entry: a load acts at the check that passes on this bench
 abbrev pub eventsOf : Bench → Machine → List ℕ → List Event
-eventsOf b m e = eventsIn (actsFrom b) (b .apply m e .answer) m (b .apply m e .machine) e
+eventsOf b m e = eventsIn (actsWhere (b .passes)) (b .apply m e .answer) m (b .apply m e .machine) e
 
 -- the events of a schedule
 unfoldable pub history : Bench → Machine → List (List ℕ) → List Event

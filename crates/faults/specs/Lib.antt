@@ -1,4 +1,3 @@
-pub mod Bytes
 pub mod Benches
 pub mod Histories
 pub mod Schedules

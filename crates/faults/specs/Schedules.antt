@@ -3,19 +3,15 @@
 use Prim.Native.Nat.{ℕ}
 use mathlib.Core.List.{List, [], _∷_, _++_}
 use lib.ListN.{replicate}
-use Rattle.cells.specs.declared.Machine.{Machine}
-use Rattle.cells.specs.Setup.{setupOf}
 use Rattle.tables.specs.Tables.{valueGiven}
 use Rattle.figure1.specs.Histories.{State, afterAll, start}
-use Rattle.faults.specs.Bytes.{go, load, store, small}
+use Rattle.laws.specs.Bytes.{go, load, store}
+use Rattle.laws.specs.Small.{small, fresh}
 use Rattle.faults.specs.Benches.{Bench}
 use Rattle.laws.specs.Acts.{valueOfCell}
 use Rattle.faults.specs.Histories.{afterwards, history}
 
--- the fresh record, and figure 1 before any call
-abbrev pub fresh : Machine
-fresh = setupOf small .machine
-
+-- figure 1 before any call
 abbrev pub atStart : State
 atStart = start (valueGiven small)
 

@@ -1,10 +1,7 @@
 -- What an engine supplies for one entry holds over every schedule: its history is legal, and the record is in the state that figure 1 is in
 -- after that history. Assumes nothing.
-use Prim.Native.Nat.{ℕ, zero, suc, _<_}
-use native.Mathlib.Omega.{arith}
 use mathlib.Core.Path.{_≡_, refl}
 use mathlib.Core.List.{List, [], _∷_, _++_, append-assoc}
-use lib.ListN.{length, getD, take, drop}
 use Rattle.figure1.specs.Histories.{State, Event, after, afterAll, Follows}
 use Rattle.figure1.specs.Engine.{Engine, run, history}
 
@@ -34,17 +31,7 @@ module _ (G : Engine) where
       let more = lift es (G .next m e) (afterAll a (G .events m e)) (G .keeps m e K) (one .1) in
       (follows-append a (G .events m e) (history G (G .next m e) es) (one .0) (more .0), rw after-append (more .1))
 
-  -- one schedule after another, and the events of its i-th entry
-  pub run-append : (es fs : List (G .Entry)) (m : G .Record) → run G m (es ++ fs) ≡ run G (run G m es) fs
-  run-append [] fs m = refl
-  run-append (e ∷ es) fs m = run-append es fs (G .next m e)
-
+  -- the history of one schedule after another
   pub history-append : (es fs : List (G .Entry)) (m : G .Record) → history G m (es ++ fs) ≡ history G m es ++ history G (run G m es) fs
   history-append [] fs m = refl
   history-append (e ∷ es) fs m = rw (history-append es fs (G .next m e), append-assoc (G .events m e) (history G (G .next m e) es) _)
-
-  pub history-at : (es : List (G .Entry)) (m : G .Record) (i : ℕ) (d : G .Entry) → i < length es
-      → history G m es ≡ history G m (take i es) ++ G .events (run G m (take i es)) (getD es i d) ++ history G (run G m (take (suc i) es)) (drop (suc i) es)
-  history-at [] m i d h = absurd (omega arith)
-  history-at (e ∷ es) m zero d h = refl
-  history-at (e ∷ es) m (suc i) d h = rw (history-at es (G .next m e) i d (omega arith)) (simp append-assoc)

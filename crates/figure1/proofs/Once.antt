@@ -13,6 +13,7 @@ use Rattle.tallies.specs.Tally.{bit, tally}
 use Rattle.figure1.specs.Figure1.{Call, Result, figure1}
 use Rattle.figure1.specs.Histories.{Status, quiet, asked, acted, State, Event, begins, acts, ends, Waiting, Legal, act, after, afterAll, Follows}
 use Rattle.figure1.specs.Counts.{beginsBy, actsBy, endsBy, number, running, hasActed}
+use Rattle.figure1.specs.Calls.{Acted, Called}
 use Rattle.figure1.proofs.Lift.{follows-split}
 
 none : (b : Bool) → bit b ≡ 0 → b ≡ false
@@ -102,13 +103,6 @@ stays p r (e ∷ h) a f n w =
     let ends-none : endsBy p e ≡ 0 = omega arith in
     stays p r h (after a e) (f .1) (omega arith) (elsewhere p a e (omega (arith, rw w at (b .begun))) (omega (arith, rw w at (b .done))) ends-none ∙ w)
 
--- where a call acted, and what it was given there
-pub record Acted (p : ℕ) (c : Call) (a : State) (h : List Event) (r : Result) : Type 0 where
-  pub before : List Event
-  pub later : List Event
-  pub split : h ≡ before ++ acts p ∷ later
-  pub result : r ≡ figure1 (afterAll a before .cells) p c .result
-
 -- a call that goes on has not acted yet, or has acted
 runs-on : (p : ℕ) (c : Call) (h : List Event) (a : State) → Follows a h → number (endsBy p) h ≡ 0 → a .status p ≡ asked c
     → (afterAll a h .status p ≡ asked c) ⊎ ((r : Result) × (afterAll a h .status p ≡ acted r) × Acted p c a h r)
@@ -184,16 +178,7 @@ began p (e ∷ h) a f w = go (began p h (after a e) (f .1) w)
           | no z ↦ let d = the-begin p e z in inr (d .0, [], h, ap (λ x. x ∷ h) (d .1), n)
         ]
 
--- the call that an end ends: where it began, that it acted once since, and what it was given there
-pub record Called (p : ℕ) (r : Result) (a : State) (h : List Event) : Type 0 where
-  pub call : Call
-  pub earlier : List Event
-  pub since : List Event
-  pub begun : h ≡ earlier ++ begins p call ∷ since
-  pub unended : number (endsBy p) since ≡ 0
-  pub acts-once : number (actsBy p) since ≡ 1
-  pub given : Acted p call (after (afterAll a earlier) (begins p call)) since r
-
+-- the call that an end ends
 pub called : (p : ℕ) (r : Result) (a : State) (h rest : List Event) → a .status p ≡ quiet → Follows a (h ++ ends p r ∷ rest) → Called p r a h
 called p r a h rest q f =
     let g = follows-split a h (ends p r ∷ rest) f in

@@ -1,4 +1,5 @@
 pub mod Figure1
 pub mod Histories
 pub mod Counts
+pub mod Calls
 pub mod Engine

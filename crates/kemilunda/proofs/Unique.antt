@@ -1,5 +1,5 @@
 -- Any two results that an exported function's contract allows are equal, and so is what a lent place holds when the function returns. Assumes nothing.
-use mathlib.Core.Path.{_≡_, refl, sym, _∙_}
+use mathlib.Core.Path.{refl, sym, _∙_}
 use Rattle.contracts.specs.One.{One}
 use Rattle.kemilunda.proofs.kemilunda_setup.Kinds as setup·k
 use Rattle.kemilunda.proofs.kemilunda_setup.Reads as setup

@@ -3,7 +3,6 @@ use cells::Machine;
 use cells::SetupAnswer;
 use runs::Report;
 ghost use mathlib.Core.Path.{_≡_};
-ghost use Prim.Native.Nat.{_≤_};
 ghost use lib.ListN.{length};
 ghost use Rattle.runs.specs.Run.{sixOf};
 ghost use Rattle.kemilunda.specs.Exported.{setupRefusal, setupUsed, numbersAfter, repliesAfter};

@@ -7,8 +7,8 @@ use mathlib.Core.Path.{_≡_, refl, sym}
 use mathlib.Core.Bool.{Bool, true, false, _&&_, _||_, true≢false}
 use mathlib.Core.List.{List, [], _∷_}
 use lib.Dec.{T, eqb, ltb}
-use lib.ListN.{getD, set, replicate, length-replicate}
-use lib.Seq.{getD-set-same, getD-set-other}
+use lib.ListN.{getD, replicate, length-replicate}
+use lib.Seq.{getD-set-other}
 use Rattle.tallies.specs.Lists.{within}
 use Rattle.tallies.specs.Tally.{bit}
 use Rattle.tallies.proofs.Lists.{fill-at, both}
@@ -35,7 +35,7 @@ use Rattle.laws.specs.Schedules.{applied, tried, Reached, set-up, entere
 use Rattle.laws.proofs.Phases.{phase-gives, either}
 use Rattle.laws.proofs.Entries.{taskNo, by-entry}
 use Rattle.laws.proofs.Rows.{Moves, l1, l2, l3-passed, l3-turned, l4, l5, s1, s2-swapped, s2-missed, s3, s4-took, s4-shared, s5, s6-took, s6-busy, s7, r1, moves}
-use Rattle.laws.proofs.Keeps.{task, in-list, in-cells}
+use Rattle.laws.proofs.Keeps.{task, in-list, put-here, in-cells}
 use Rattle.laws.proofs.Table.{entry-keeps}
 use Rattle.laws.proofs.Start.{by-setup}
 use Rattle.laws.proofs.Runs.{by-run}
@@ -57,13 +57,10 @@ module _ (m : Machine) (K : Kept m) (e : List ℕ) (hp : getD e 2 0 < m .p) wher
   abbrev t : Task
   t = taskOf m e
 
-  now : (t′ : Task) → getD (set (m .tasks) (getD e 2 0) t′) (getD e 2 0) noTask ≡ t′
-  now t′ = getD-set-same (m .tasks) (getD e 2 0) t′ noTask (in-list m K hp)
-
   carried : (t′ : Task) (w : Write) → cellsAfter m w ≡ m .cells → (Current (m .cells) t → Current (m .cells) t′) → Some m → Some (written m (taskNo e) t′ w)
   carried t′ w c f s =
       elim (ℕ-discrete (s .0) (getD e 2 0)) [
-        | yes x ↦ (getD e 2 0, hp, rw (c, now t′) (f (rw x at (s .2))))
+        | yes x ↦ (getD e 2 0, hp, rw (c, put-here m K t′ hp) (f (rw x at (s .2))))
         | no ne ↦ (s .0, s .1, rw (c, getD-set-other (m .tasks) (getD e 2 0) (s .0) t′ noTask ne) (s .2))
       ]
 
@@ -75,7 +72,7 @@ module _ (m : Machine) (K : Kept m) (e : List ℕ) (hp : getD e 2 0 < m .p) wher
   row f d q l4 = carried (d .task) (d .write) refl (λ h k. h (rw q tt))
   row f d q (l5 c) = carried (d .task) (d .write) refl (λ h k. absurd k)
   row f d q s1 = carried (d .task) (d .write) refl (λ h k. h (rw q tt))
-  row f d q (s2-swapped c) = λ s. (getD e 2 0, hp, rw (now (d .task)) (λ k. absurd k))
+  row f d q (s2-swapped c) = λ s. (getD e 2 0, hp, rw (put-here m K (d .task) hp) (λ k. absurd k))
   row f d q (s2-missed c) = carried (d .task) (d .write) refl (λ h k. absurd (c (h (rw q tt))))
   row f d q (s3 c) = carried (d .task) (d .write) refl (λ h k. absurd k)
   row f d q (s4-took c) = carried (d .task) (d .write) refl (λ h k. absurd k)

@@ -21,11 +21,12 @@ use Rattle.runs.specs.Run.{entriesIn, entriesOf, replyBytes, repliesOf, untried
 use Rattle.figure1.specs.Figure1.{Call, Result}
 use Rattle.figure1.specs.Histories.{State, Event, begins, ends, after, afterAll, Follows, start}
 use Rattle.figure1.specs.Counts.{beginsBy, actsBy, endsBy, number}
+use Rattle.figure1.specs.Calls.{Acted, Called}
 use Rattle.figure1.specs.Engine.{history}
 use Rattle.figure1.proofs.Lift.{follows-split}
-use Rattle.figure1.proofs.Once.{Acted, Called, finished, unfinished, in-order, cells-stay}
+use Rattle.figure1.proofs.Once.{finished, unfinished, in-order, cells-stay}
 use Rattle.laws.specs.Acts.{Matches, finishes, eventsOf}
-use Rattle.laws.specs.Schedules.{applied, tried, Reached, over}
+use Rattle.laws.specs.Schedules.{applied, tried, before, entry, Reached, Scheduled, over}
 use Rattle.laws.specs.Beyond.{Bare, Alike, Alike-after}
 use Rattle.laws.specs.Accepts.{Fits}
 use Rattle.laws.specs.Outcomes.{Outcome, Steps}
@@ -35,16 +36,17 @@ use Rattle.laws.proofs.Rows.{moves}
 use Rattle.laws.proofs.Accepts.{takes, fits}
 use Rattle.laws.proofs.Start.{setup-kept, setup-blank}
 use Rattle.laws.proofs.Runs.{run-damaged, run-long, run-no-room, run-tries, buffer-length, buffer-past}
-use Rattle.laws.proofs.Reached.{schedule-keeps, reached-kept, Scheduled, scheduled}
+use Rattle.laws.proofs.Reached.{schedule-keeps, reached-kept, scheduled}
 use Rattle.laws.proofs.Beyond.{reached-bare, entry-alike}
 use Rattle.laws.proofs.Damage.{in-range, entry-undamaged, run-undamaged}
-use Rattle.laws.proofs.Engine.{pool, follows, matches, answered, before, entry, replies-follow}
+use Rattle.laws.proofs.Engine.{pool, follows, matches, answered, replies-follow}
 use lib.Dec.{T, eqb}
 use Rattle.tallies.specs.Lists.{within}
 use Rattle.tallies.specs.Tally.{tally}
 use Rattle.tasks.specs.Records.{nodeNo, noTask}
 use Rattle.tasks.specs.Holders.{heldAmong, holdersValue}
 use Rattle.laws.specs.Meaning.{points, owns, swapped, used, free}
+use Rattle.laws.specs.Small as Small
 use Rattle.laws.specs.Solo.{Within}
 use Rattle.laws.specs.Numbers.{numbersOf, startRefusal, triedBy, overRuns, triedAll}
 use Rattle.laws.proofs.Room.{count-most, two-free}
@@ -190,8 +192,8 @@ module _ (s : List ℕ) (bytes : ℕ) (ok : setupOf s .answer ≡ Ready bytes) w
   reported-steps rs = rw (chain-steps rs m, chain-loads rs m, chain-swaps rs m) (load-bound anywhere s bytes ok (triedAll m rs))
 
 -- the bound is met: 12 steps for 2 loads and 1 swap by one other task (Sharp)
-pub load-steps-met : (over (stepsAt anywhere) Sharp.fresh (Sharp.case11 ++ Sharp.gos 7 0) ≡ 12)
-    × (4 * over (loadsAt anywhere) Sharp.fresh (Sharp.case11 ++ Sharp.gos 7 0) + 4 * ((Sharp.fresh .p - 1) * over (swapsAt anywhere) Sharp.fresh (Sharp.case11 ++ Sharp.gos 7 0)) ≡ 12)
+pub load-steps-met : (over (stepsAt anywhere) Small.fresh (Small.case11 ++ Small.gos 7 0) ≡ 12)
+    × (4 * over (loadsAt anywhere) Small.fresh (Small.case11 ++ Small.gos 7 0) + 4 * ((Small.fresh .p - 1) * over (swapsAt anywhere) Small.fresh (Small.case11 ++ Small.gos 7 0)) ≡ 12)
 load-steps-met = Sharp.bound-met
 
 -- a run's record and its six numbers are those of the entries that it tries (Numbers)
@@ -229,11 +231,15 @@ module _ {m : Machine} (r : Reached m) (p : ℕ) (h : p < m .p) where
   room-to-store = two-free m (reached-kept r) p h
 
 -- in the records of cases 11 and 10, neither 6 steps are enough for the load nor N + 2P + 2 = 7 for the store (Sharp)
-pub load-ends-met : Within 6 (applied Sharp.fresh Sharp.case11) 0 → ⊥
+pub load-ends-met : Within 6 (applied Small.fresh Small.case11) 0 → ⊥
 load-ends-met = Sharp.load-met
 
-pub store-ends-met : Within 7 (applied Sharp.fresh Sharp.case10) 1 → ⊥
+pub store-ends-met : Within 7 (applied Small.fresh Small.case10) 1 → ⊥
 store-ends-met = Sharp.store-met
+
+-- and no more than two nodes are free where task 1 begins to look for one in case 10, after its five steps S1 to S5 (Sharp)
+pub room-to-store-met : free (applied Small.fresh (Small.case10 ++ Small.gos 5 1)) ≡ 2
+room-to-store-met = Sharp.free-met
 
 -- THE POOL. Of every record reached: no count passes P + 1 (Room), and at most N + 2P - 1 nodes are in use (Busy), one less than K must be.
 module _ {m : Machine} (r : Reached m) where
@@ -242,6 +248,14 @@ module _ {m : Machine} (r : Reached m) where
 
   pub used-limit : used m + 1 ≤ m .n + 2 * m .p
   used-limit = busy-most r
+
+-- in case 10 node 0, which the cell points at and both tasks hold, has the count P + 1 = 3 (Sharp)
+pub count-limit-met : getD (applied Small.fresh Small.case10 .counts) 0 0 ≡ 3
+count-limit-met = Sharp.count-met
+
+-- and after task 1's store N + 2P - 1 = 4 nodes are in use (Sharp)
+pub used-limit-met : used (applied Small.fresh (Small.case10 ++ Small.gos 8 1)) ≡ 4
+used-limit-met = Sharp.busy-met
 
 -- WHAT A COUNT IS, for whoever asks what a node is owed: the cells, owners and holders that document 01's holders question counts (Counts).
 pub node-owed : {m : Machine} → Reached m → (i : ℕ) → i < m .k

@@ -1,6 +1,6 @@
 -- The pool engine as an engine of figure 1: every schedule from an accepted setup has a legal history and leaves the record that matches it,
 -- and the replies that a run writes are those of the entries of such a history. Assumes nothing.
-use Prim.Native.Nat.{ℕ, _+_, _*_, _≤_, _<_}
+use Prim.Native.Nat.{ℕ, _*_, _≤_, _<_}
 use native.Mathlib.Omega.{arith}
 use mathlib.Core.Path.{_≡_, refl, ap}
 use mathlib.Core.Bool.{true, cond}
@@ -17,12 +17,13 @@ use Rattle.runs.specs.Counts.{taskOf}
 use Rattle.runs.specs.Run.{entriesIn, entriesOf, replyBytes, repliesFrom, bufferOf}
 use Rattle.figure1.specs.Figure1.{Result}
 use Rattle.figure1.specs.Histories.{Event, acts, ends, afterAll, Follows, start}
+use Rattle.figure1.specs.Calls.{Called}
 use Rattle.figure1.specs.Engine.{Engine, run, history}
 use Rattle.figure1.proofs.Lift.{lift, history-append}
-use Rattle.figure1.proofs.Once.{Called, called}
+use Rattle.figure1.proofs.Once.{called}
 use Rattle.laws.specs.Meaning.{Kept}
 use Rattle.laws.specs.Acts.{Matches, actsFrom, finishes, eventsIn, eventsOf}
-use Rattle.laws.specs.Schedules.{applied, tried}
+use Rattle.laws.specs.Schedules.{applied, tried, before, entry}
 use Rattle.laws.proofs.Entries.{by-entry, steppedBy}
 use Rattle.laws.proofs.Table.{entry-keeps}
 use Rattle.laws.proofs.Start.{setup-kept, setup-matches}
@@ -31,6 +32,8 @@ use Rattle.laws.proofs.Damage.{in-range}
 use Rattle.laws.proofs.Follows.{entry-fits}
 use Rattle.laws.proofs.Runs.{replies-length, reply-at, replies-tried}
 
+-- the pool engine. The statements on Demands look only at its `next` and `events`; it stands here and not in specs/ because its last two fields
+-- are the proofs that one entry keeps what holds and agrees with figure 1.
 abbrev pub pool : Engine
 pool = record {
   Record = Machine;
@@ -86,13 +89,6 @@ reply-bytes m b out i r h k l =
     let R = repliesFrom m (entriesOf b) in
     let n = replies-length (entriesOf b) m in
     rw (replies-tried m b (length out) r h k, drop-append-le (8 * i) R _ (omega arith), take-append-le 8 (drop (8 * i) R) _ (rw length-drop (omega arith))) (reply-at (entriesOf b) m i l)
-
--- after the schedule es from an accepted setup, a run of the bytes b: the entries before the i-th that it tries, and that entry
-abbrev pub before : Machine → List (List ℕ) → List ℕ → ℕ → List (List ℕ)
-before m es b i = es ++ take i (tried (applied m es) (entriesOf b))
-
-abbrev pub entry : Machine → List (List ℕ) → List ℕ → ℕ → List ℕ
-entry m es b i = getD (tried (applied m es) (entriesOf b)) i []
 
 -- the i-th reply is that entry's, at the record after the entries before it, and its events stand at the end of a legal history
 module _ (s : List ℕ) (used : ℕ) (ok : setupOf s .answer ≡ Ready used) (es : List (List ℕ)) (b out : List ℕ) (h : length b ≤ 65530) (k : 8 * entriesIn b ≤ length out) where

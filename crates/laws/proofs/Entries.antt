@@ -30,7 +30,7 @@ use Rattle.cells.specs.declared.Applied.{Applied}
 use Rattle.cells.specs.Machine.{seenOf, refusedBy, carriedOf, inRange}
 use Rattle.cells.specs.Apply.{judgedOf, decisionOf, carriedBy, applyOf}
 use Rattle.runs.specs.Counts.{accepted, kindOf, taskOf}
-use Rattle.laws.specs.Solo.{goBytes}
+use Rattle.laws.specs.Bytes.{go as goes}
 pub use Rattle.laws.specs.Outcomes.{taskNo, stepOf, Asks, Steps, Damage, by-range, by-step, begunBy, steppedBy, Outcome, refused, loads, stores, releases, steps}
 use Rattle.laws.proofs.Phases.{by-test}
 
@@ -125,6 +125,6 @@ refused-leaves m e =
 
 -- a task's go, in a record that is in range, is its step
 pub go-steps : (m : Machine) (p : ℕ) → inRange m ≡ true → p < m .p
-    → applyOf m (goBytes p) ≡ carriedOf m (record { 0 = p }) (effectOf (getD (m .tasks) p noTask) (seenOf m (getD (m .tasks) p noTask)))
+    → applyOf m (goes p) ≡ carriedOf m (record { 0 = p }) (effectOf (getD (m .tasks) p noTask) (seenOf m (getD (m .tasks) p noTask)))
 unfolding applyOf decisionOf judgedOf orderOf callOf entryOf marked nonzero wordAt outside
 go-steps m p r h = rw (r, lt-leb (m .p) p h) refl

@@ -8,7 +8,7 @@ use mathlib.Core.List.{List, [], _∷_, _++_}
 use mathlib.Core.Logic.{_≢_}
 use lib.Dec.{T, eqb}
 use lib.ListN.{getD, set}
-use lib.Seq.{getD-set-same, getD-set-other}
+use lib.Seq.{getD-set-other}
 use borrow.Author.Tests.{eq-eqb, ne-eqb}
 use Rattle.tallies.proofs.Tally.{tally-at, bit-eq, put-each}
 use Rattle.wire.specs.Bytes.{wordAt}
@@ -31,7 +31,7 @@ use Rattle.laws.specs.Acts.{inSet, linkedAt, standing, Matches, actsFrom
 use Rattle.laws.proofs.Phases.{either, phase-gives}
 use Rattle.laws.proofs.Entries.{taskNo, by-entry}
 use Rattle.laws.proofs.Rows.{Moves, l1, l2, l3-passed, l3-turned, l4, l5, s1, s2-swapped, s2-missed, s3, s4-took, s4-shared, s5, s6-took, s6-busy, s7, r1, moves}
-use Rattle.laws.proofs.Keeps.{task, in-list, in-cells, part}
+use Rattle.laws.proofs.Keeps.{task, in-list, put-here, in-cells, part}
 
 -- only a load that has passed its check looks at a value
 standing-same : (vs vs′ : List ℕ) (f : ℕ) (t : Task) → (f ≡ 4 → getD vs (t .held .0) 0 ≡ getD vs′ (t .held .0) 0) → standing vs f t ≡ standing vs′ f t
@@ -237,4 +237,4 @@ entry-fits m e a K M =
     (λ k h. rw (k .kind, k .kind) (begin-fits m K (taskNo e) (k .task) a M 0 (load (getD e 4 0)) _ (k .phase) refl (λ y. refl) refl))
     (λ k h. rw (k .kind, k .kind) (begin-fits m K (taskNo e) (k .task) a M 6 (store (getD e 4 0) (wordAt e 6)) _ (k .phase) refl (λ y. refl) (rw h)))
     (λ k. rw (k .kind, k .kind) (begin-fits m K (taskNo e) (k .task) a M 6 (release (task m (getD e 2 0) .cell .0)) _ (k .phase) refl (λ y. refl) refl))
-    (λ d s. rw (s .kind, getD-set-same (m .tasks) (getD e 2 0) (d .task) noTask (in-list m K (s .task))) (step-fits m K (taskNo e) (s .task) a M d (s .does)))
+    (λ d s. rw (s .kind, put-here m K (d .task) (s .task)) (step-fits m K (taskNo e) (s .task) a M d (s .does)))

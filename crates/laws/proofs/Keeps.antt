@@ -7,6 +7,7 @@ use mathlib.Core.List.{List}
 use mathlib.Core.Logic.{_≢_}
 use lib.ListN.{length, getD, set, length-set}
 use lib.Dec.{T, eqb}
+use lib.Seq.{getD-set-same}
 use Rattle.tallies.specs.Tally.{bit, tally}
 use Rattle.tallies.proofs.Tally.{tally-set, tally-at, tally-two, down-at, bit-eq, bit-ne, bit-le, put-at, T→true}
 use Rattle.tasks.specs.declared.NodeNo.{NodeNo}
@@ -37,6 +38,10 @@ kept t i h k r = rw (T→true (holds (t .phase)) (phase-gives passed holds tt (t
 module _ (m : Machine) (K : Kept m) where
   pub in-list : {q : ℕ} → q < m .p → q < length (m .tasks)
   in-list h = omega (arith, K .sound .tasks-length, K .sound .tasks)
+
+  -- task q's record, where t has just been put there
+  pub put-here : {q : ℕ} (t : Task) → q < m .p → getD (set (m .tasks) q t) q noTask ≡ t
+  put-here {q} t h = getD-set-same (m .tasks) q t noTask (in-list h)
 
   pub in-counts : {i : ℕ} → i < m .k → i < length (m .counts)
   in-counts h = omega (arith, K .sound .counts-length, K .sound .nodes)

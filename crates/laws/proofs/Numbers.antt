@@ -19,9 +19,8 @@ use Rattle.runs.specs.declared.Ran.{Ran}
 use Rattle.runs.specs.Counts.{accepted, anywhere, loadsAt, stepsAt, turnedAt, swapsAt}
 use Rattle.runs.specs.Run.{entriesIn, entriesOf, reportOf, counted, refusedAt, ranFrom, ranOf}
 use Rattle.laws.proofs.Phases.{either}
-use Rattle.laws.proofs.Reached.{applied-append}
 use Rattle.laws.specs.Schedules.{applied, over, tried}
-use Rattle.laws.specs.Numbers.{acceptedAt, refusalIn, lastRefusal, numbersOf, startRefusal, triedBy, ranAll, triedAll, overRuns}
+use Rattle.laws.specs.Numbers.{acceptedAt, refusalIn, lastRefusal, numbersOf, startRefusal, triedBy, triedAll, overRuns}
 
 -- a schedule in two parts
 pub over-append : (f : Machine → List ℕ → ℕ) (es es′ : List (List ℕ)) (m : Machine) → over f m (es ++ es′) ≡ over f m es + over f (applied m es) es′
@@ -94,17 +93,11 @@ run-is m s room =
     Is : Ran → ℕ → Type 0
     Is r n = let es = cond (eqb n 0) (tried m (entriesOf s)) [] in r ≡ record { machine = applied m es; report = numbersOf n m es }
 
--- a chain of runs: the record at the end is what the entries that they tried leave, and their numbers add up to those of these entries
+-- a run's record is what the entries that it tried leave
 ran-to : (m : Machine) (s : List ℕ) (room : ℕ) → applied m (triedBy m s room) ≡ ranOf m s room .machine
 ran-to m s room = rw (run-is m s room)
 
-pub chain-applied : (rs : List (List ℕ × ℕ)) (m : Machine) → ranAll m rs ≡ applied m (triedAll m rs)
-unfolding ranAll triedAll applied
-chain-applied [] m = refl
-chain-applied (r ∷ rs) m =
-    let m′ = ranOf m (r .0) (r .1) .machine in
-    chain-applied rs m′ ∙ sym (rw (ran-to m (r .0) (r .1)) at (applied-append (triedBy m (r .0) (r .1)) (triedAll m′ rs) m))
-
+-- a chain of runs: a number of theirs, added up, is that of the entries that they tried
 adds-up : (f : Report → ℕ) (g : Machine → List ℕ → ℕ) → ((m : Machine) (s : List ℕ) (room : ℕ) → f (ranOf m s room .report) ≡ over g m (triedBy m s room))
     → (rs : List (List ℕ × ℕ)) (m : Machine) → overRuns f m rs ≡ over g m (triedAll m rs)
 unfolding overRuns triedAll over
@@ -114,17 +107,11 @@ adds-up f g h (r ∷ rs) m =
     omega (arith, h m (r .0) (r .1), adds-up f g h rs m′, rw (ran-to m (r .0) (r .1)) at (over-append g (triedBy m (r .0) (r .1)) (triedAll m′ rs) m))
 
 module _ (rs : List (List ℕ × ℕ)) (m : Machine) where
-  pub chain-accepted : overRuns (λ r. r .accepted) m rs ≡ over acceptedAt m (triedAll m rs)
-  chain-accepted = adds-up (λ r. r .accepted) acceptedAt (λ m s room. rw (run-is m s room)) rs m
-
   pub chain-loads : overRuns (λ r. r .loads) m rs ≡ over (loadsAt anywhere) m (triedAll m rs)
   chain-loads = adds-up (λ r. r .loads) (loadsAt anywhere) (λ m s room. rw (run-is m s room)) rs m
 
   pub chain-steps : overRuns (λ r. r .«load_steps») m rs ≡ over (stepsAt anywhere) m (triedAll m rs)
   chain-steps = adds-up (λ r. r .«load_steps») (stepsAt anywhere) (λ m s room. rw (run-is m s room)) rs m
-
-  pub chain-turned : overRuns (λ r. r .«turned_back») m rs ≡ over (turnedAt anywhere) m (triedAll m rs)
-  chain-turned = adds-up (λ r. r .«turned_back») (turnedAt anywhere) (λ m s room. rw (run-is m s room)) rs m
 
   pub chain-swaps : overRuns (λ r. r .swaps) m rs ≡ over (swapsAt anywhere) m (triedAll m rs)
   chain-swaps = adds-up (λ r. r .swaps) (swapsAt anywhere) (λ m s room. rw (run-is m s room)) rs m

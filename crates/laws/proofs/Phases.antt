@@ -5,6 +5,7 @@ use native.Mathlib.Decide.{ℕ-discrete}
 use mathlib.Core.Path.{_≡_, refl, subst, sym}
 use mathlib.Core.Bool.{Bool, true, false, cond, not, _&&_, _||_}
 use lib.Dec.{T}
+use Rattle.tallies.proofs.Lists.{each}
 
 pub by-phase : (R : ℕ → Type 0) → R 0 → R 1 → R 2 → R 3 → R 4 → R 5 → R 6 → R 7 → R 8 → R 9 → R 10 → R 11 → R 12 → R 13 → R 14 → (n : ℕ) → n ≤ 14 → R n
 by-phase R r0 r1 r2 r3 r4 r5 r6 r7 r8 r9 r10 r11 r12 r13 r14 zero h = r0
@@ -39,20 +40,13 @@ abbrev pub below : ℕ → (ℕ → Bool) → Bool
 below zero f = true
 below (suc n) f = f n && below n f
 
-and-left : (a b : Bool) → T (a && b) → T a
-and-left true b t = tt
-and-left false b t = t
-
-and-right : (a b : Bool) → T (a && b) → T b
-and-right true b t = t
-and-right false b t = absurd t
-
+-- such a test passes at each of them
 pub each-below : (f : ℕ → Bool) (n : ℕ) → T (below n f) → (i : ℕ) → i < n → T (f i)
 each-below f zero t i h = absurd (omega arith)
 each-below f (suc n) t i h =
     elim (ℕ-discrete i n) [
-      | yes e ↦ subst (λ (j : ℕ). T (f j)) (sym e) (and-left (f n) (below n f) t)
-      | no ne ↦ each-below f n (and-right (f n) (below n f) t) i (omega arith)
+      | yes e ↦ subst (λ (j : ℕ). T (f j)) (sym e) (each (f n) (below n f) t .0)
+      | no ne ↦ each-below f n (each (f n) (below n f) t .1) i (omega arith)
     ]
 
 pub implied : (a b : Bool) → T (not a || b) → T a → T b

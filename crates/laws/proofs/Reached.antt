@@ -3,12 +3,11 @@ use Prim.Native.Nat.{ℕ}
 use mathlib.Core.Path.{_≡_, refl, ap, _∙_}
 use mathlib.Core.List.{List, [], _∷_, _++_}
 use Rattle.cells.specs.declared.Machine.{Machine}
-use Rattle.cells.specs.declared.SetupAnswer.the-variants.{Ready}
 use Rattle.cells.specs.Apply.{applyOf}
 use Rattle.cells.specs.Setup.{setupOf}
 use Rattle.runs.specs.Run.{entriesOf, ranOf}
 use Rattle.laws.specs.Meaning.{Kept}
-use Rattle.laws.specs.Schedules.{applied, tried, Reached, set-up, entered, ran}
+use Rattle.laws.specs.Schedules.{applied, tried, Reached, set-up, entered, ran, Scheduled}
 use Rattle.laws.proofs.Table.{entry-keeps}
 use Rattle.laws.proofs.Start.{setup-kept}
 use Rattle.laws.proofs.Runs.{by-run}
@@ -25,14 +24,6 @@ pub reached-kept : {m : Machine} → Reached m → Kept m
 reached-kept (set-up s used q) = setup-kept s used q
 reached-kept (entered m e r) = entry-keeps m e (reached-kept r)
 reached-kept (ran m s room r) = run-keeps m s room (reached-kept r)
-
--- the record after some schedule of entries from an accepted setup
-pub record Scheduled (m : Machine) : Type 0 where
-  pub setup : List ℕ
-  pub used : ℕ
-  pub ready : setupOf setup .answer ≡ Ready used
-  pub entries : List (List ℕ)
-  pub reaches : applied (setupOf setup .machine) entries ≡ m
 
 pub applied-append : (es fs : List (List ℕ)) (m : Machine) → applied m (es ++ fs) ≡ applied (applied m es) fs
 unfolding applied

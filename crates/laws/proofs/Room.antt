@@ -71,10 +71,6 @@ module _ (m : Machine) (K : Kept m) where
   pub used-up : used m ≤ m .n + tally (weighs (m .k)) (m .p) (m .tasks)
   used-up = omega (arith, total-mono (λ i. bit (ltb 0 (getD (m .counts) i 0))) per-node (m .k) in-use, shares)
 
-  -- at most N + 2P nodes are in use
-  pub at-most : used m ≤ m .n + 2 * m .p
-  at-most = omega (arith, used-up, tally-most (weighs (m .k)) 2 (m .p) (m .tasks) (two (m .k)))
-
   shared-out : used m + free m ≡ m .k
   shared-out = total-split (λ i. bit (ltb 0 (getD (m .counts) i 0))) (λ i. bit (eqb (getD (m .counts) i 0) 0)) (m .k) (λ i h. one (getD (m .counts) i 0))
     where

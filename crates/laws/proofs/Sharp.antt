@@ -11,7 +11,7 @@ use borrow.Author.Tests.{eqb-true}
 use Rattle.tallies.specs.Lists.{every, fillTo}
 use Rattle.tallies.specs.Tally.{total}
 use Rattle.tallies.proofs.Lists.{both}
-use Rattle.wire.specs.Bytes.{setupMark, entryMark, marked, wordAt}
+use Rattle.wire.specs.Bytes.{marked, wordAt}
 use Rattle.answers.specs.Numbers.{numberOf}
 use Rattle.answers.specs.declared.Answer.{Answer}
 use Rattle.answers.specs.declared.Answer.the-variants.{Replied, Refused}
@@ -29,37 +29,14 @@ use Rattle.cells.specs.Setup.{freshOf, setupOf}
 use Rattle.runs.specs.Counts.{anywhere, loadsAt, stepsAt, swapsAt}
 use Rattle.laws.specs.Meaning.{used, free}
 use Rattle.laws.specs.Schedules.{applied, over, Reached, set-up, entered}
-use Rattle.laws.specs.Solo.{goBytes, Finished, Within}
-
--- N = 1, P = 2, K = 5, value 7
-abbrev pub setup : List ℕ
-setup = setupMark ++ 1 ∷ 2 ∷ 5 ∷ 0 ∷ 7 ∷ 0 ∷ 0 ∷ 0 ∷ []
-
-abbrev pub fresh : Machine
-fresh = setupOf setup .machine
-
-abbrev pub loading : ℕ → List ℕ
-loading p = entryMark ++ p ∷ 1 ∷ 0 ∷ 0 ∷ 0 ∷ 0 ∷ 0 ∷ 0 ∷ []
-
-abbrev pub storing : ℕ → ℕ → List ℕ
-storing p y = entryMark ++ p ∷ 2 ∷ 0 ∷ 0 ∷ y ∷ 0 ∷ 0 ∷ 0 ∷ []
-
-abbrev pub gos : ℕ → ℕ → List (List ℕ)
-gos zero p = []
-gos (suc n) p = goBytes p ∷ gos n p
-
--- case 10: both load 7, and task 1 starts to store 9
-abbrev pub case10 : List (List ℕ)
-case10 = loading 0 ∷ gos 4 0 ++ loading 1 ∷ gos 4 1 ++ storing 1 9 ∷ []
-
--- case 11: task 0 does L1, and task 1 loads and stores 9
-abbrev pub case11 : List (List ℕ)
-case11 = loading 0 ∷ goBytes 0 ∷ loading 1 ∷ gos 4 1 ++ storing 1 9 ∷ gos 4 1
+use Rattle.laws.specs.Bytes.{go}
+use Rattle.laws.specs.Small.{small, fresh, gos, case10, case11}
+use Rattle.laws.specs.Solo.{Finished, Within}
 
 -- each of the next n steps of task p only moves
 abbrev only-moves : ℕ → Machine → ℕ → Bool
 only-moves zero m p = true
-only-moves (suc n) m p = eqb (numberOf (applyOf m (goBytes p) .answer)) 0 && only-moves n (applyOf m (goBytes p) .machine) p
+only-moves (suc n) m p = eqb (numberOf (applyOf m (go p) .answer)) 0 && only-moves n (applyOf m (go p) .machine) p
 
 unfinished : (a : Answer) → numberOf a ≡ 0 → Finished a → ⊥
 unfinished (Replied Moved) q f = f
@@ -72,10 +49,10 @@ unfinished (Refused r) q f = f
 late : (n : ℕ) (m : Machine) (p : ℕ) → only-moves n m p ≡ true → Within n m p → ⊥
 unfolding Within
 late zero m p h w = w
-late (suc n) m p h (inl f) = unfinished (applyOf m (goBytes p) .answer) (eqb-true _ 0 (both _ _ h .0)) f
-late (suc n) m p h (inr w) = late n (applyOf m (goBytes p) .machine) p (both (eqb (numberOf (applyOf m (goBytes p) .answer)) 0) _ h .1) (w .1)
+late (suc n) m p h (inl f) = unfinished (applyOf m (go p) .answer) (eqb-true _ 0 (both _ _ h .0)) f
+late (suc n) m p h (inr w) = late n (applyOf m (go p) .machine) p (both (eqb (numberOf (applyOf m (go p) .answer)) 0) _ h .1) (w .1)
 
-pub ready : setupOf setup .answer ≡ Ready 10
+pub ready : setupOf small .answer ≡ Ready 10
 unfolding setupOf marked sizesOk
 ready = refl
 
@@ -86,15 +63,15 @@ reached [] m r = r
 reached (e ∷ es) m r = reached es (applyOf m e .machine) (entered m e r)
 
 pub reached-here : (es : List (List ℕ)) → Reached (applied fresh es)
-reached-here es = reached es fresh (set-up setup 10 ready)
+reached-here es = reached es fresh (set-up small 10 ready)
 
 record Computed : Type 0 where
   steps : over (stepsAt anywhere) fresh (case11 ++ gos 7 0) ≡ 12
   most : 4 * over (loadsAt anywhere) fresh (case11 ++ gos 7 0) + 4 * ((fresh .p - 1) * over (swapsAt anywhere) fresh (case11 ++ gos 7 0)) ≡ 12
-  loaded : applyOf (applied fresh (case11 ++ gos 6 0)) (goBytes 0) .answer ≡ Replied (Loaded 9)
+  loaded : applyOf (applied fresh (case11 ++ gos 6 0)) (go 0) .answer ≡ Replied (Loaded 9)
   loads : only-moves 6 (applied fresh case11) 0 ≡ true
   stores : only-moves 7 (applied fresh case10) 1 ≡ true
-  took : applyOf (applied fresh (case10 ++ gos 7 1)) (goBytes 1) .answer ≡ Replied Took
+  took : applyOf (applied fresh (case10 ++ gos 7 1)) (go 1) .answer ≡ Replied Took
   count : getD (applied fresh case10 .counts) 0 0 ≡ 3
   probing : free (applied fresh (case10 ++ gos 5 1)) ≡ 2
   busy : used (applied fresh (case10 ++ gos 8 1)) ≡ 4
@@ -109,7 +86,7 @@ pub bound-met : (over (stepsAt anywhere) fresh (case11 ++ gos 7 0) ≡ 12)
     × (4 * over (loadsAt anywhere) fresh (case11 ++ gos 7 0) + 4 * ((fresh .p - 1) * over (swapsAt anywhere) fresh (case11 ++ gos 7 0)) ≡ 12)
 bound-met = (computed .steps, computed .most)
 
-pub gives-9 : applyOf (applied fresh (case11 ++ gos 6 0)) (goBytes 0) .answer ≡ Replied (Loaded 9)
+pub gives-9 : applyOf (applied fresh (case11 ++ gos 6 0)) (go 0) .answer ≡ Replied (Loaded 9)
 gives-9 = computed .loaded
 
 -- 6 steps are not enough for task 0's load there, nor N + 2P + 2 = 7 for task 1's store in case 10; its eighth takes
@@ -119,7 +96,7 @@ load-met = late 6 (applied fresh case11) 0 (computed .loads)
 pub store-met : Within 7 (applied fresh case10) 1 → ⊥
 store-met = late 7 (applied fresh case10) 1 (computed .stores)
 
-pub takes-8 : applyOf (applied fresh (case10 ++ gos 7 1)) (goBytes 1) .answer ≡ Replied Took
+pub takes-8 : applyOf (applied fresh (case10 ++ gos 7 1)) (go 1) .answer ≡ Replied Took
 takes-8 = computed .took
 
 -- there a count is P + 1 = 3, two nodes are free while task 1 probes, and N + 2P - 1 = 4 are in use after it

@@ -19,7 +19,7 @@ use Rattle.answers.specs.declared.Reply.the-variants.{Moved}
 use Rattle.answers.specs.declared.Answer.the-variants.{Replied}
 use Rattle.tasks.specs.declared.NodeNo.{NodeNo}
 use Rattle.tasks.specs.declared.Task.{Task}
-use Rattle.tasks.specs.Records.{nodeNo, noTask}
+use Rattle.tasks.specs.Records.{nodeNo}
 use Rattle.steps.specs.declared.Seen.{Seen}
 use Rattle.steps.specs.declared.Deed.{Deed}
 use Rattle.steps.specs.declared.Effect.{Effect}
@@ -29,10 +29,11 @@ use Rattle.cells.specs.declared.Machine.{Machine}
 use Rattle.cells.specs.Machine.{seenOf, written, carriedOf}
 use Rattle.cells.specs.Apply.{applyOf}
 use Rattle.laws.specs.Meaning.{Kept}
-use Rattle.laws.specs.Solo.{goBytes, Finished, Within}
+use Rattle.laws.specs.Bytes.{go}
+use Rattle.laws.specs.Solo.{Finished, Within}
 use Rattle.laws.proofs.Phases.{by-phase, either}
 use Rattle.laws.proofs.Entries.{go-steps}
-use Rattle.laws.proofs.Keeps.{task, in-list, in-counts}
+use Rattle.laws.proofs.Keeps.{task, put-here, in-counts}
 use Rattle.laws.proofs.Table.{step-keeps}
 use Rattle.laws.proofs.Damage.{in-range, Steady, steady}
 use Rattle.laws.proofs.Room.{used-less, can-lower}
@@ -102,7 +103,7 @@ unfolding Within
 more zero k m p h w = absurd w
 more (suc n) zero m p h w = absurd (omega arith)
 more (suc n) (suc k) m p h (inl f) = inl f
-more (suc n) (suc k) m p h (inr w) = inr (w .0, more n k (applyOf m (goBytes p) .machine) p (omega arith) (w .1))
+more (suc n) (suc k) m p h (inr w) = inr (w .0, more n k (applyOf m (go p) .machine) p (omega arith) (w .1))
 
 module _ (p : ℕ) where
   abbrev stepped : Machine → Deed → Machine
@@ -167,7 +168,7 @@ module _ (p : ℕ) where
       let d = c .0 in
       let t = task m p in
       let K′ = step-keeps m K (record { 0 = p }) hp d (c .1) in
-      let now : task (stepped m d) p ≡ d .task = getD-set-same (m .tasks) p (d .task) noTask (in-list m K hp) in
+      let now : task (stepped m d) p ≡ d .task = put-here m K (d .task) hp in
       rw (go-steps m p (in-range m K) hp, c .1)
       (elim (row m K hp n (t .phase) d refl e (moves t (seenOf m t) d (c .1)) K′ now) [
         | inl f ↦ inl f

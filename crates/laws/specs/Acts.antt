@@ -1,7 +1,7 @@
 -- A machine record in figure 1's terms: its values and sets, where each task's call stands, and the events of an entry.
 use Prim.Native.Nat.{ℕ, _<_}
 use mathlib.Core.Path.{_≡_}
-use mathlib.Core.Bool.{Bool, true, false, cond, _&&_}
+use mathlib.Core.Bool.{Bool, true, false, cond, _&&_, _||_}
 use mathlib.Core.List.{List, [], _∷_, _++_}
 use lib.Dec.{eqb}
 use lib.ListN.{getD}
@@ -56,9 +56,14 @@ beginning kind e t =
     (cond (eqb kind 2) (store (getD e 4 0) (wordAt e 6) ∷ [])
     (cond (eqb kind 3) (release (t .cell .0) ∷ []) []))
 
--- a step acts: a load at its passing check (L3 to L4), a store at its swap (S2, took or not), a release at its one step (R1)
+-- a step from phase f to phase f′ acts: a load at its passing check, which `passes` tells, a store at its swap (S2, took or not), a release at
+-- its one step (R1)
+abbrev pub actsWhere : (ℕ → ℕ → Bool) → ℕ → ℕ → Bool
+actsWhere passes f f′ = passes f f′ || (eqb f 8 || eqb f 14)
+
+-- in document 01's table a check passes from L3 to L4
 abbrev pub actsFrom : ℕ → ℕ → Bool
-actsFrom f f′ = cond (eqb f 3) (eqb f′ 4) (cond (eqb f 8) true (eqb f 14))
+actsFrom = actsWhere (λ f f′. eqb f 3 && eqb f′ 4)
 
 -- a call ends with its reply
 abbrev pub ending : Reply → List Result

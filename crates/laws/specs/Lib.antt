@@ -1,9 +1,11 @@
 pub mod Meaning
 pub mod Beyond
-pub mod Acts
-pub mod Schedules
-pub mod Accepts
 pub mod Outcomes
 pub mod Moves
+pub mod Accepts
+pub mod Acts
+pub mod Schedules
+pub mod Bytes
+pub mod Small
 pub mod Solo
 pub mod Numbers

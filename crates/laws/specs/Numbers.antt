@@ -50,12 +50,8 @@ startRefusal m s room = cond (not (inRange m)) 22 (cond (ltb 65530 (length s)) 2
 unfoldable pub triedBy : Machine → List ℕ → ℕ → List (List ℕ)
 triedBy m s room = cond (eqb (startRefusal m s room) 0) (tried m (entriesOf s)) []
 
--- runs one after the other, each of some bytes with some room, on the record that the one before left: the record at the end, the entries
--- that they try, and one of their numbers added up
-unfoldable pub ranAll : Machine → List (List ℕ × ℕ) → Machine
-ranAll m [] = m
-ranAll m (r ∷ rs) = ranAll (ranOf m (r .0) (r .1) .machine) rs
-
+-- runs one after the other, each of some bytes with some room, on the record that the one before left: the entries that they try, and one of
+-- their numbers added up
 unfoldable pub triedAll : Machine → List (List ℕ × ℕ) → List (List ℕ)
 triedAll m [] = []
 triedAll m (r ∷ rs) = triedBy m (r .0) (r .1) ++ triedAll (ranOf m (r .0) (r .1) .machine) rs

@@ -1,18 +1,14 @@
 -- A task alone: its running call ends within n of its own steps.
 use Prim.Native.Nat.{ℕ, zero, suc}
 use mathlib.Core.Path.{_≡_}
-use mathlib.Core.List.{List, [], _∷_, _++_}
+use mathlib.Core.List.{List}
 use mathlib.Core.Logic.{_⊎_}
-use Rattle.wire.specs.Bytes.{entryMark}
 use Rattle.answers.specs.declared.Answer.{Answer}
 use Rattle.answers.specs.declared.Answer.the-variants.{Replied, Refused}
 use Rattle.answers.specs.declared.Reply.the-variants.{Moved, Loaded, Took, Lost, Released}
 use Rattle.cells.specs.declared.Machine.{Machine}
 use Rattle.cells.specs.Apply.{applyOf}
-
--- the bytes of task p's go
-abbrev pub goBytes : ℕ → List ℕ
-goBytes p = entryMark ++ p ∷ 0 ∷ 0 ∷ 0 ∷ 0 ∷ 0 ∷ 0 ∷ 0 ∷ []
+use Rattle.laws.specs.Bytes.{go}
 
 -- a reply that ends a call
 abbrev pub Finished : Answer → Type 0
@@ -27,4 +23,4 @@ Finished (Refused r) = ⊥
 unfoldable pub Within : ℕ → Machine → ℕ → Type 0
 Within zero m p = ⊥
 Within (suc n) m p =
-    Finished (applyOf m (goBytes p) .answer) ⊎ ((applyOf m (goBytes p) .answer ≡ Replied Moved) × Within n (applyOf m (goBytes p) .machine) p)
+    Finished (applyOf m (go p) .answer) ⊎ ((applyOf m (go p) .answer ≡ Replied Moved) × Within n (applyOf m (go p) .machine) p)

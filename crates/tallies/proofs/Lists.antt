@@ -4,6 +4,7 @@ use mathlib.Core.Path.{_≡_, refl, sym, _∙_}
 use mathlib.Core.Logic.{_≢_}
 use mathlib.Core.Bool.{Bool, true, false, cond, _&&_, false≢true}
 use mathlib.Core.List.{List}
+use lib.Dec.{T}
 use lib.ListN.{length, getD, set, length-set}
 use lib.Seq.{getD-set-same, getD-set-other}
 use native.Mathlib.Numerals.{add-one}
@@ -47,9 +48,15 @@ within-bounds a b n h = elim (decLe a n) [ yes l ↦ (l, leb-true n b (rw (le-le
 pub within-true : (a b n : ℕ) → a ≤ n → n ≤ b → within a b n ≡ true
 within-true a b n l r = rw (le-leb a n l, le-leb n b r)
 
+-- two tests that hold together hold each
 pub both : (a b : Bool) → (a && b) ≡ true → (a ≡ true) × (b ≡ true)
 both true b h = (refl, h)
 both false b h = absurd (false≢true h)
+
+-- the same of what is claimed of two tests
+pub each : (a b : Bool) → T (a && b) → T a × T b
+each true b h = (tt, h)
+each false b h = absurd h
 
 -- what stands where, and how much, after the filling
 pub fill-length {ℓ} : {A : Type ℓ} (f : ℕ → A) (n : ℕ) (l : List A) → length (fillTo f n l) ≡ length l

@@ -135,9 +135,6 @@ pub bit-le : (b : Bool) → bit b ≤ 1
 bit-le true = omega arith
 bit-le false = omega arith
 
-pub bit-pos : (m i : ℕ) → 0 < bit (eqb m i) → m ≡ i
-bit-pos m i h = elim (ℕ-discrete m i) [ yes e ↦ e | no ne ↦ absurd (omega (arith, bit-ne m i ne)) ]
-
 -- at most one number below n is m
 total-none : (m n : ℕ) → n ≤ m → total (λ i. bit (eqb m i)) n ≡ 0
 unfolding total
@@ -171,18 +168,6 @@ down-at l m i h k =
     ]
 
 -- a fact of each place, after one place changed
-pub put-at : {A : Type 0} (R : A → Type 0) (l : List A) (j : ℕ) (a d : A) → j < length l → R a → (i : ℕ) → (i ≢ j → R (getD l i d)) → R (getD (set l j a) i d)
-put-at R l j a d h ra i rest =
-    elim (ℕ-discrete i j) [
-      | yes e ↦ subst (λ (k : ℕ). R (getD (set l j a) k d)) (sym e) (subst R (sym (getD-set-same l j a d h)) ra)
-      | no ne ↦ subst R (sym (getD-set-other l j i a d ne)) (rest ne)
-    ]
-
-pub T→true : (b : Bool) → T b → b ≡ true
-T→true true h = refl
-T→true false h = absurd h
-
--- the same where the fact names the place
 pub put-each : {A : Type 0} (R : ℕ → A → Type 0) (l : List A) (j : ℕ) (a d : A) → j < length l → R j a → (i : ℕ) → (i ≢ j → R i (getD l i d)) → R i (getD (set l j a) i d)
 put-each R l j a d h ra i rest =
     elim (ℕ-discrete i j) [
@@ -190,13 +175,14 @@ put-each R l j a d h ra i rest =
       | no ne ↦ subst (R i) (sym (getD-set-other l j i a d ne)) (rest ne)
     ]
 
--- weights of at most c, and a place that weighs nothing
-pub tally-spare : {A : Type 0} (w : A → ℕ) (c n : ℕ) (l : List A) (j : ℕ) (d : A) → ((a : A) → w a ≤ c) → w (getD l j d) ≡ 0 → j < n → j < length l → tally w n l + c ≤ n * c
-unfolding tally
-tally-spare w c zero l j d h z hj k = absurd (not-suc-le-zero hj)
-tally-spare w c (suc n) [] j d h z hj k = absurd (not-suc-le-zero k)
-tally-spare w c (suc n) (x ∷ l) zero d h z hj k = omega (arith, z, tally-most w c n l h)
-tally-spare w c (suc n) (x ∷ l) (suc j) d h z hj k = omega (arith, h x, tally-spare w c n l j d h z (le-of-suc-le-suc hj) (le-of-suc-le-suc k))
+-- the same where the fact does not name the place
+pub put-at : {A : Type 0} (R : A → Type 0) (l : List A) (j : ℕ) (a d : A) → j < length l → R a → (i : ℕ) → (i ≢ j → R (getD l i d)) → R (getD (set l j a) i d)
+put-at R = put-each (λ k. R)
+
+-- what is claimed of a test is the test's outcome
+pub T→true : (b : Bool) → T b → b ≡ true
+T→true true h = refl
+T→true false h = absurd h
 
 -- a test and its opposite share the numbers below n out
 pub total-split : (f g : ℕ → ℕ) (n : ℕ) → ((i : ℕ) → i < n → f i + g i ≡ 1) → total f n + total g n ≡ n

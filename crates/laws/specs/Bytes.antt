@@ -31,7 +31,3 @@ store p x y = entry p 2 x y
 -- kind 3: task p begins a release
 abbrev pub release : ℕ → List ℕ
 release p = entry p 3 0 0
-
--- the setup of document 01's cases 9 to 12: N=1, P=2, K=5, value 7
-abbrev pub small : List ℕ
-small = setup 1 2 5 (7 ∷ [])
