@@ -4,8 +4,9 @@ use mathlib.Core.Bool.{Bool, _&&_}
 use mathlib.Core.List.{List}
 use lib.ListN.{set}
 use Rattle.tallies.specs.Lists.{every}
+use Rattle.steps.specs.Table.{answerOf}
 use Rattle.tables.specs.Tables.{nodeIn, countIn, valueIn, sizesOk, cellOk, countOk, taskOkIn}
-use Rattle.cells.specs.Types.{Machine, Applied, TaskNo, Task, Seen, Write, Nothing, Point, Count, Value, Effect, Does, Refuses, Refusal, Replied, Refused}
+use Rattle.cells.specs.Types.{Machine, Applied, TaskNo, Task, Seen, Write, Nothing, Point, Count, Value, Effect, Does, Refuses, Refusal, Refused}
 
 -- what a step of t sees: the node of x, the counts of m and of the cursor's node, the value of m, P and K
 abbrev pub seenIn : List ℕ → List ℕ → List ℕ → Task → ℕ → ℕ → Seen
@@ -68,10 +69,14 @@ written m p t w =
 abbrev pub refusedBy : Machine → ℕ → Refusal → Applied
 refusedBy m i r = record { machine = m; answer = Refused r; task = i }
 
--- an effect of task p is carried out
+-- an effect of task p leaves the record as it was, or written
+abbrev pub leftBy : Machine → TaskNo → Effect → Machine
+leftBy m p (Refuses r) = m
+leftBy m p (Does d) = written m p (d .task) (d .write)
+
+-- it is carried out, and answered
 unfoldable pub carriedOf : Machine → TaskNo → Effect → Applied
-carriedOf m p (Refuses r) = refusedBy m (p .0) r
-carriedOf m p (Does d) = record { machine = written m p (d .task) (d .write); answer = Replied (d .reply); task = p .0 }
+carriedOf m p e = record { machine = leftBy m p e; answer = answerOf e; task = p .0 }
 
 -- N, P, K inside the sizes; every pointer below K; every count at most P+1
 abbrev pub tablesOk : ℕ → ℕ → ℕ → List ℕ → List ℕ → Bool

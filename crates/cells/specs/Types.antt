@@ -1,9 +1,6 @@
 -- The types of the machine under one name: those declared here and those of the crates below that its definitions speak of.
-pub use Rattle.tasks.specs.declared.CellNo.{CellNo}
-pub use Rattle.tasks.specs.declared.NodeNo.{NodeNo}
 pub use Rattle.tasks.specs.declared.TaskNo.{TaskNo}
 pub use Rattle.tasks.specs.declared.Task.{Task}
-pub use Rattle.answers.specs.declared.Answer.{Answer}
 pub use Rattle.answers.specs.declared.Answer.the-variants.{Replied, Refused}
 pub use Rattle.answers.specs.declared.Refusal.{Refusal}
 pub use Rattle.answers.specs.declared.Refusal.the-variants.{Sizes, NoTask, NotZero, WrongMark, TooShort, Damaged}

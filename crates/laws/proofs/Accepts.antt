@@ -9,24 +9,16 @@ use lib.Dec.{T, eqb, leb, ltb}
 use lib.ListN.{length, getD}
 use borrow.Author.Tests.{lt-leb, eq-eqb, leb-true, leb-false, ltb-true, ltb-false, eqb-true, eqb-false, not-true, not-false}
 use Rattle.wire.specs.Bytes.{entryMark, marked, wordAt}
-use Rattle.answers.specs.declared.Refusal.{Refusal}
-use Rattle.answers.specs.declared.Refusal.the-variants.{NoTask, NoKind, NoCell, NotZero, NotNow, OtherCell}
-use Rattle.tasks.specs.declared.Task.{Task}
 use Rattle.tasks.specs.Records.{cellNo}
-use Rattle.steps.specs.declared.Effect.{Effect}
-use Rattle.steps.specs.declared.Effect.the-variants.{Does, Refuses}
 use Rattle.steps.specs.Table.{rows, effectOf}
-use Rattle.entries.specs.declared.Entry.{Entry}
-use Rattle.entries.specs.declared.EntryRead.{EntryRead}
 use Rattle.entries.specs.Entry.{entryOf, nonzero, outside}
 use Rattle.entries.specs.Order.{loadOf, storeOf, releaseOf, callOf, orderOf}
 use Rattle.tables.specs.Tables.{taskIn}
-use Rattle.cells.specs.declared.Machine.{Machine}
-use Rattle.cells.specs.declared.Decision.{Decision}
 use Rattle.cells.specs.Machine.{seenOf, carriedOf, inRange}
 use Rattle.cells.specs.Apply.{judgedOf, decisionOf, carriedBy, applyOf}
 use Rattle.runs.specs.Counts.{accepted, kindOf, taskOf}
-use Rattle.laws.specs.Meaning.{Kept}
+use Rattle.laws.specs.Types.{Refusal, NoTask, NoKind, NoCell, NotZero, NotNow, OtherCell, Task, Effect, Does, Refuses, Entry, EntryRead, Machine, Decision}
+use Rattle.laws.specs.Kept.{Kept}
 use Rattle.laws.specs.Accepts.{May, go, load, store, release, Fits}
 use Rattle.laws.proofs.Phases.{by-test}
 use Rattle.laws.proofs.Entries.{taskNo}

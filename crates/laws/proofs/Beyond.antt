@@ -11,28 +11,16 @@ use lib.Seq.{getD-set-same, getD-set-other, set-out}
 use borrow.Author.Tests.{le-leb, leb-true, ltb-true}
 use Rattle.tallies.specs.Lists.{every}
 use Rattle.tallies.proofs.Lists.{both, fill-past, every-at, every-same}
-use Rattle.tasks.specs.declared.TaskNo.{TaskNo}
-use Rattle.tasks.specs.declared.Task.{Task}
 use Rattle.tasks.specs.Records.{nodeNo, noTask, idleOwning, taskOk}
-use Rattle.steps.specs.declared.Seen.{Seen}
-use Rattle.steps.specs.declared.Write.{Write}
-use Rattle.steps.specs.declared.Write.the-variants.{Nothing, Point, Count, Value}
-use Rattle.steps.specs.declared.Deed.{Deed}
-use Rattle.steps.specs.declared.Effect.{Effect}
-use Rattle.steps.specs.declared.Effect.the-variants.{Does, Refuses}
 use Rattle.tables.specs.Tables.{cellOk, countOk, taskOkIn, taskIn, valueGiven}
-use Rattle.entries.specs.declared.Entry.{Entry}
-use Rattle.entries.specs.declared.EntryRead.{EntryRead}
-use Rattle.entries.specs.declared.EntryRead.the-variants.{Whole, Refused as Unread}
 use Rattle.entries.specs.Entry.{entryOf}
 use Rattle.entries.specs.Order.{orderOf}
-use Rattle.cells.specs.declared.Machine.{Machine}
-use Rattle.cells.specs.declared.Decision.{Decision}
 use Rattle.cells.specs.Machine.{seenOf, cellsAfter, valuesAfter, countsAfter, written, carriedOf, tablesOk, inRange}
 use Rattle.cells.specs.Apply.{judgedOf, guarded, decisionOf, carriedBy, applyOf}
 use Rattle.cells.specs.Setup.{freshOf}
 use Rattle.runs.specs.Counts.{taskOf}
-use Rattle.laws.specs.Meaning.{InRange, Kept}
+use Rattle.laws.specs.Types.{TaskNo, Task, Seen, Write, Nothing, Point, Count, Value, Deed, Effect, Does, Refuses, Entry, EntryRead, Whole, Unread, Machine, Decision}
+use Rattle.laws.specs.Kept.{InRange, Kept}
 use Rattle.laws.specs.Schedules.{applied, Reached}
 use Rattle.laws.specs.Beyond.{Bare, Agree, Alike, Alike-after}
 use Rattle.laws.proofs.Entries.{taskNo, by-entry}

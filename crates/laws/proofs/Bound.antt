@@ -14,22 +14,14 @@ use Rattle.tallies.specs.Tally.{bit, tally}
 use Rattle.tallies.proofs.Lists.{fill-length}
 use Rattle.tallies.proofs.Tally.{tally-set, tally-same, tally-fill, total-same, total-zero}
 use Rattle.tallies.proofs.Bounds.{bit-and, both-le, tally-short}
-use Rattle.tasks.specs.declared.Task.{Task}
-use Rattle.tasks.specs.declared.Call.{Call}
-use Rattle.tasks.specs.declared.Call.the-variants.{Load, Store, Release}
 use Rattle.tasks.specs.Records.{cellNo, nodeNo, noTask, idleOwning, onward}
 use Rattle.tasks.specs.Calls.{begunOf}
 use Rattle.wire.specs.Bytes.{wordAt}
-use Rattle.answers.specs.declared.Reply.the-variants.{Moved}
-use Rattle.steps.specs.declared.Write.the-variants.{Nothing}
-use Rattle.steps.specs.declared.Deed.{Deed}
-use Rattle.cells.specs.declared.Machine.{Machine}
-use Rattle.cells.specs.declared.Applied.{Applied}
 use Rattle.cells.specs.Machine.{seenOf, cellsAfter}
 use Rattle.cells.specs.Apply.{applyOf}
-use Rattle.cells.specs.declared.SetupAnswer.the-variants.{Ready}
 use Rattle.cells.specs.Setup.{freshOf, setupOf}
 use Rattle.runs.specs.Counts.{accepted, kindOf, taskOf, loadsAt, stepsAt, turnedAt, swapsAt}
+use Rattle.laws.specs.Types.{Task, Call, Load, Store, Release, Moved, Nothing, Deed, Machine, Applied, Ready}
 use Rattle.laws.specs.Schedules.{applied, over}
 use Rattle.laws.proofs.Entries.{Asks, begunBy, steppedBy, by-entry}
 use Rattle.laws.proofs.Start.{by-setup}

@@ -14,23 +14,19 @@ use Rattle.tallies.specs.Tally.{bit}
 use Rattle.tallies.proofs.Lists.{fill-at, both}
 use Rattle.tallies.proofs.Tally.{tally-at, tally-most, bit-le, bit-eq, total-add, total-mono}
 use Rattle.tallies.proofs.Bounds.{tally-short, total-part}
-use Rattle.tasks.specs.declared.Task.{Task}
-use Rattle.tasks.specs.declared.Call.the-variants.{Load, Store, Release}
 use Rattle.tasks.specs.Records.{cellNo, nodeNo, noTask, idleOwning}
 use Rattle.tasks.specs.Phases.{live, holds}
 use Rattle.tasks.specs.Holders.{keeps}
 use Rattle.tasks.specs.Calls.{begunOf}
 use Rattle.wire.specs.Bytes.{wordAt}
-use Rattle.steps.specs.declared.Deed.{Deed}
-use Rattle.steps.specs.declared.Write.{Write}
-use Rattle.steps.specs.declared.Write.the-variants.{Nothing}
-use Rattle.cells.specs.declared.Machine.{Machine}
 use Rattle.cells.specs.Machine.{seenOf, cellsAfter, written}
 use Rattle.cells.specs.Apply.{applyOf}
 use Rattle.cells.specs.Setup.{freshOf}
 use Rattle.runs.specs.Counts.{taskOf}
 use Rattle.runs.specs.Run.{entriesOf}
-use Rattle.laws.specs.Meaning.{points, owns, InRange, Kept, used}
+use Rattle.laws.specs.Types.{Task, Load, Store, Release, Deed, Write, Nothing, Machine}
+use Rattle.laws.specs.Meaning.{points, owns, used}
+use Rattle.laws.specs.Kept.{InRange, Kept}
 use Rattle.laws.specs.Schedules.{applied, tried, Reached, set-up, entered, ran}
 use Rattle.laws.proofs.Phases.{phase-gives, either}
 use Rattle.laws.proofs.Entries.{taskNo, by-entry}

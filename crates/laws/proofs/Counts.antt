@@ -8,11 +8,10 @@ use lib.Seq.{length-take-le}
 use borrow.Author.Tests.{le-ltb}
 use Rattle.tallies.specs.Tally.{tally}
 use Rattle.tallies.proofs.Tally.{tally-add, tally-take}
-use Rattle.tasks.specs.declared.Task.{Task}
 use Rattle.tasks.specs.declared.HolderCount.the-variants.{Count}
 use Rattle.tasks.specs.Records.{nodeNo}
 use Rattle.tasks.specs.Holders.{keeps, holdersOf, heldAmong, holdersValue}
-use Rattle.cells.specs.declared.Machine.{Machine}
+use Rattle.laws.specs.Types.{Task, Machine}
 use Rattle.laws.specs.Meaning.{points, owns, swapped}
 use Rattle.laws.specs.Schedules.{Reached}
 use Rattle.laws.proofs.Reached.{reached-kept}

@@ -10,26 +10,16 @@ use lib.ListN.{getD}
 use borrow.Author.Tests.{lt-ltb, le-ltb, le-leb, ne-eqb}
 use Rattle.tallies.proofs.Lists.{within-true, every-true}
 use Rattle.answers.specs.Numbers.{numberOf}
-use Rattle.answers.specs.declared.Answer.{Answer}
-use Rattle.answers.specs.declared.Answer.the-variants.{Replied, Refused}
-use Rattle.answers.specs.declared.Reply.{Reply}
-use Rattle.answers.specs.declared.Reply.the-variants.{Moved, Loaded, Took, Lost, Released}
-use Rattle.answers.specs.declared.Refusal.the-variants.{Sizes, NoTask, NoKind, NoCell, NotZero, NotNow, NoStep, OtherCell, WrongMark, TooShort, NoRoom, Damaged, TooLong}
-use Rattle.tasks.specs.declared.Task.{Task}
 use Rattle.tasks.specs.Records.{onward, probing, taskOk}
 use Rattle.tasks.specs.Phases.{holds}
-use Rattle.steps.specs.declared.Effect.{Effect}
-use Rattle.steps.specs.declared.Effect.the-variants.{Does, Refuses}
 use Rattle.steps.specs.Table.{after, raisedOf, loweredOf, counting, rows, beyond, effectOf}
 use Rattle.tables.specs.Tables.{sizesOk, cellOk, countOk, taskOkIn}
-use Rattle.cells.specs.declared.Machine.{Machine}
 use Rattle.cells.specs.Machine.{seenOf, inRange}
 use Rattle.cells.specs.Apply.{applyOf}
-use Rattle.runs.specs.declared.Report.{Report}
-use Rattle.runs.specs.declared.Ran.{Ran}
 use Rattle.runs.specs.Counts.{accepted}
 use Rattle.runs.specs.Run.{entriesOf, reportOf, counted, ranFrom, ranOf}
-use Rattle.laws.specs.Meaning.{Kept}
+use Rattle.laws.specs.Types.{Answer, Replied, Refused, Reply, Moved, Loaded, Took, Lost, Released, Sizes, NoTask, NoKind, NoCell, NotZero, NotNow, NoStep, OtherCell, WrongMark, TooShort, NoRoom, Damaged, TooLong, Task, Effect, Does, Refuses, Machine, Report, Ran}
+use Rattle.laws.specs.Kept.{Kept}
 use Rattle.laws.proofs.Phases.{by-phase, by-test}
 use Rattle.laws.proofs.Entries.{Damage, by-range, by-step, by-entry}
 use Rattle.laws.proofs.Keeps.{task}

@@ -6,13 +6,7 @@ use mathlib.Core.Bool.{true, false, Bool}
 use mathlib.Core.List.{List, [], _∷_, _++_}
 use mathlib.Core.Logic.{_≢_}
 use lib.ListN.{length, getD, take, drop}
-use Rattle.answers.specs.declared.Answer.the-variants.{Refused}
-use Rattle.answers.specs.declared.Refusal.{Refusal}
-use Rattle.answers.specs.declared.Refusal.the-variants.{NoRoom, Damaged, TooLong}
-use Rattle.steps.specs.declared.Deed.{Deed}
 use Rattle.tables.specs.Tables.{valueGiven}
-use Rattle.cells.specs.declared.Machine.{Machine}
-use Rattle.cells.specs.declared.SetupAnswer.the-variants.{Ready, Refused as NotSetUp}
 use Rattle.cells.specs.Machine.{seenOf, inRange}
 use Rattle.cells.specs.Apply.{applyOf}
 use Rattle.cells.specs.Setup.{blankOf, setupOf}
@@ -25,6 +19,7 @@ use Rattle.figure1.specs.Calls.{Acted, Called}
 use Rattle.figure1.specs.Engine.{history}
 use Rattle.figure1.proofs.Lift.{follows-split}
 use Rattle.figure1.proofs.Once.{finished, unfinished, in-order, cells-stay}
+use Rattle.laws.specs.Types.{Refused, Refusal, NoRoom, Damaged, TooLong, Deed, Machine, Ready, NotSetUp}
 use Rattle.laws.specs.Acts.{Matches, finishes, eventsOf}
 use Rattle.laws.specs.Schedules.{applied, tried, before, entry, Reached, Scheduled, over}
 use Rattle.laws.specs.Beyond.{Bare, Alike, Alike-after}

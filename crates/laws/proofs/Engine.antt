@@ -8,8 +8,6 @@ use mathlib.Core.List.{List, [], _∷_, _++_, append-nil, append-assoc}
 use lib.ListN.{length, getD, take, drop, length-drop}
 use lib.Seq.{take-append-le, drop-append-le}
 use Rattle.tables.specs.Tables.{valueGiven}
-use Rattle.cells.specs.declared.Machine.{Machine}
-use Rattle.cells.specs.declared.SetupAnswer.the-variants.{Ready}
 use Rattle.cells.specs.Machine.{inRange}
 use Rattle.cells.specs.Apply.{applyOf}
 use Rattle.cells.specs.Setup.{setupOf}
@@ -21,7 +19,8 @@ use Rattle.figure1.specs.Calls.{Called}
 use Rattle.figure1.specs.Engine.{Engine, run, history}
 use Rattle.figure1.proofs.Lift.{lift, history-append}
 use Rattle.figure1.proofs.Once.{called}
-use Rattle.laws.specs.Meaning.{Kept}
+use Rattle.laws.specs.Types.{Machine, Ready}
+use Rattle.laws.specs.Kept.{Kept}
 use Rattle.laws.specs.Acts.{Matches, actsFrom, finishes, eventsIn, eventsOf}
 use Rattle.laws.specs.Schedules.{applied, tried, before, entry}
 use Rattle.laws.proofs.Entries.{by-entry, steppedBy}

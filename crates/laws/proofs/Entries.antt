@@ -11,25 +11,15 @@ use lib.ListN.{length, getD}
 use borrow.Author.Tests.{ltb-false, leb-false, eqb-true, eqb-false, not-true, not-false, lt-leb}
 use Rattle.wire.specs.Bytes.{entryMark, marked, wordAt}
 use Rattle.answers.specs.Numbers.{refusalNumber}
-use Rattle.answers.specs.declared.Refusal.{Refusal}
-use Rattle.answers.specs.declared.Refusal.the-variants.{NoTask, NoKind, NoCell, NotZero, NotNow, OtherCell, WrongMark, TooShort, Damaged}
-use Rattle.tasks.specs.declared.Task.{Task}
-use Rattle.tasks.specs.declared.Call.the-variants.{Load, Store, Release}
 use Rattle.tasks.specs.Records.{cellNo, noTask}
-use Rattle.steps.specs.declared.Deed.{Deed}
-use Rattle.steps.specs.declared.Effect.{Effect}
-use Rattle.steps.specs.declared.Effect.the-variants.{Does, Refuses}
 use Rattle.steps.specs.Table.{effectOf}
-use Rattle.entries.specs.declared.Entry.{Entry}
-use Rattle.entries.specs.declared.EntryRead.{EntryRead}
 use Rattle.entries.specs.Entry.{entryOf, nonzero, outside}
 use Rattle.entries.specs.Order.{loadOf, storeOf, releaseOf, callOf, orderOf}
 use Rattle.tables.specs.Tables.{taskIn}
-use Rattle.cells.specs.declared.Machine.{Machine}
-use Rattle.cells.specs.declared.Applied.{Applied}
 use Rattle.cells.specs.Machine.{seenOf, refusedBy, carriedOf, inRange}
 use Rattle.cells.specs.Apply.{judgedOf, decisionOf, carriedBy, applyOf}
 use Rattle.runs.specs.Counts.{accepted, kindOf, taskOf}
+use Rattle.laws.specs.Types.{Refusal, NoTask, NoKind, NoCell, NotZero, NotNow, OtherCell, WrongMark, TooShort, Damaged, Task, Load, Store, Release, Deed, Effect, Does, Refuses, Entry, EntryRead, Machine, Applied}
 use Rattle.laws.specs.Bytes.{go as goes}
 pub use Rattle.laws.specs.Outcomes.{taskNo, stepOf, Asks, Steps, Damage, by-range, by-step, begunBy, steppedBy, Outcome, refused, loads, stores, releases, steps}
 use Rattle.laws.proofs.Phases.{by-test}

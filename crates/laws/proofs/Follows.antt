@@ -12,21 +12,17 @@ use lib.Seq.{getD-set-other}
 use borrow.Author.Tests.{eq-eqb, ne-eqb}
 use Rattle.tallies.proofs.Tally.{tally-at, bit-eq, put-each}
 use Rattle.wire.specs.Bytes.{wordAt}
-use Rattle.tasks.specs.declared.TaskNo.{TaskNo}
-use Rattle.tasks.specs.declared.Task.{Task}
 use Rattle.tasks.specs.Records.{noTask, onward}
 use Rattle.tasks.specs.Phases.{live, passed}
-use Rattle.steps.specs.declared.Write.the-variants.{Nothing, Point, Value}
-use Rattle.steps.specs.declared.Deed.{Deed}
-use Rattle.steps.specs.declared.Effect.the-variants.{Does}
 use Rattle.steps.specs.Table.{effectOf}
-use Rattle.cells.specs.declared.Machine.{Machine}
 use Rattle.cells.specs.Machine.{seenOf, written}
 use Rattle.cells.specs.Apply.{applyOf}
 use Rattle.figure1.specs.Figure1.{put, Call, load, store, release, value, took, lost, released, nobody}
 use Rattle.figure1.specs.Histories.{Status, quiet, asked, acted, State, Event, begins, acts, ends, act, afterAll, Follows}
 use Rattle.figure1.proofs.Put.{put-same, put-other, put-in, set-put}
-use Rattle.laws.specs.Meaning.{points, claims, Ready, InRange, Kept}
+use Rattle.laws.specs.Types.{TaskNo, Task, Nothing, Point, Value, Deed, Does, Machine}
+use Rattle.laws.specs.Meaning.{points, claims}
+use Rattle.laws.specs.Kept.{Ready, InRange, Kept}
 use Rattle.laws.specs.Acts.{inSet, linkedAt, standing, Matches, actsFrom, ending, each, eventsIn, eventsOf}
 use Rattle.laws.proofs.Phases.{either, phase-gives}
 use Rattle.laws.proofs.Entries.{taskNo, by-entry}

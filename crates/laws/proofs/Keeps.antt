@@ -10,18 +10,14 @@ use lib.Dec.{T, eqb}
 use lib.Seq.{getD-set-same}
 use Rattle.tallies.specs.Tally.{bit, tally}
 use Rattle.tallies.proofs.Tally.{tally-set, tally-at, tally-two, down-at, bit-eq, bit-ne, bit-le, put-at, T→true}
-use Rattle.tasks.specs.declared.NodeNo.{NodeNo}
-use Rattle.tasks.specs.declared.TaskNo.{TaskNo}
-use Rattle.tasks.specs.declared.Task.{Task}
 use Rattle.tasks.specs.Records.{noTask, onward, owning}
 use Rattle.tasks.specs.Phases.{holds, live, passed}
 use Rattle.tasks.specs.Holders.{keeps}
-use Rattle.steps.specs.declared.Write.{Write}
-use Rattle.steps.specs.declared.Write.the-variants.{Nothing, Count}
-use Rattle.cells.specs.declared.Machine.{Machine}
 use Rattle.cells.specs.Machine.{cellsAfter, valuesAfter, countsAfter, written}
 use Rattle.cells.proofs.Written.{cells-after, values-after, counts-after}
-use Rattle.laws.specs.Meaning.{points, claims, pointers, claimers, Apart, Ready, InRange, Kept}
+use Rattle.laws.specs.Types.{NodeNo, TaskNo, Task, Write, Nothing, Count, Machine}
+use Rattle.laws.specs.Meaning.{points, claims, pointers, claimers}
+use Rattle.laws.specs.Kept.{Apart, Ready, InRange, Kept}
 use Rattle.laws.proofs.Phases.{phase-gives}
 
 -- task q's record

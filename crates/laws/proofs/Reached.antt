@@ -2,11 +2,11 @@
 use Prim.Native.Nat.{ℕ}
 use mathlib.Core.Path.{_≡_, refl, ap, _∙_}
 use mathlib.Core.List.{List, [], _∷_, _++_}
-use Rattle.cells.specs.declared.Machine.{Machine}
 use Rattle.cells.specs.Apply.{applyOf}
 use Rattle.cells.specs.Setup.{setupOf}
 use Rattle.runs.specs.Run.{entriesOf, ranOf}
-use Rattle.laws.specs.Meaning.{Kept}
+use Rattle.laws.specs.Types.{Machine}
+use Rattle.laws.specs.Kept.{Kept}
 use Rattle.laws.specs.Schedules.{applied, tried, Reached, set-up, entered, ran, Scheduled}
 use Rattle.laws.proofs.Table.{entry-keeps}
 use Rattle.laws.proofs.Start.{setup-kept}

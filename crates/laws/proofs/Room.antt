@@ -10,12 +10,12 @@ use borrow.Author.Tests.{ne-eqb, lt-ltb}
 use Rattle.tallies.specs.Tally.{bit, tally, total}
 use Rattle.tallies.proofs.Tally.{tally-at, tally-mono, tally-add, tally-most, bit-eq, bit-ne, bit-le, T→true, total-tally, total-add, total-mono, total-one, total-split, total-zero}
 use Rattle.tallies.proofs.Bounds.{tally-short}
-use Rattle.tasks.specs.declared.Task.{Task}
 use Rattle.tasks.specs.Records.{noTask}
 use Rattle.tasks.specs.Phases.{live, holds}
 use Rattle.tasks.specs.Holders.{keeps}
-use Rattle.cells.specs.declared.Machine.{Machine}
-use Rattle.laws.specs.Meaning.{points, owns, swapped, pointers, Kept, used, free}
+use Rattle.laws.specs.Types.{Task, Machine}
+use Rattle.laws.specs.Meaning.{points, owns, swapped, pointers, used, free}
+use Rattle.laws.specs.Kept.{Kept}
 use Rattle.laws.proofs.Keeps.{task, in-list}
 
 -- a node in phase 9's hands is a node that the task holds

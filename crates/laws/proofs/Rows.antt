@@ -6,20 +6,10 @@ use mathlib.Core.Path.{_≡_}
 use lib.Dec.{eqb, ltb}
 use lib.ListN.{getD}
 use borrow.Author.Tests.{ltb-false, eqb-true, eqb-false}
-use Rattle.answers.specs.declared.Reply.{Reply}
-use Rattle.answers.specs.declared.Reply.the-variants.{Moved, Lost, Released}
-use Rattle.tasks.specs.declared.NodeNo.{NodeNo}
-use Rattle.tasks.specs.declared.Task.{Task}
 use Rattle.tasks.specs.Records.{onward, probing}
-use Rattle.steps.specs.declared.Seen.{Seen}
-use Rattle.steps.specs.declared.Write.the-variants.{Count}
-use Rattle.steps.specs.declared.Counted.{Counted}
-use Rattle.steps.specs.declared.Counted.the-variants.{To, Broken}
-use Rattle.steps.specs.declared.Deed.{Deed}
-use Rattle.steps.specs.declared.Effect.{Effect}
-use Rattle.steps.specs.declared.Effect.the-variants.{Does, Refuses}
 use Rattle.steps.specs.Table.{after, raisedOf, loweredOf, counting, rows, beyond, effectOf}
 use Rattle.steps.proofs.Rows.{effect-beyond}
+use Rattle.laws.specs.Types.{Reply, Moved, Lost, Released, NodeNo, Task, Seen, Count, Counted, To, Broken, Deed, Effect, Does, Refuses}
 pub use Rattle.laws.specs.Moves.{deed, raised, lowered, Moves, l1, l2, l3-passed, l3-turned, l4, l5, s1, s2-swapped, s2-missed, s3, s4-took, s4-shared, s5, s6-took, s6-busy, s7, r1}
 use Rattle.laws.proofs.Phases.{by-phase, by-test}
 

@@ -10,15 +10,11 @@ use lib.ListN.{length, getD, take, drop, length-append, length-drop}
 use lib.Seq.{drop-append-add, getD-append-add, getD-drop}
 use borrow.Author.Tests.{lt-ltb, le-ltb, le-leb, lt-leb}
 use Rattle.answers.specs.Numbers.{numberOf}
-use Rattle.answers.specs.declared.Refusal.{Refusal}
-use Rattle.answers.specs.declared.Refusal.the-variants.{NoRoom, Damaged, TooLong}
-use Rattle.cells.specs.declared.Machine.{Machine}
 use Rattle.cells.specs.Machine.{inRange}
 use Rattle.cells.specs.Apply.{applyOf}
-use Rattle.runs.specs.declared.Report.{Report}
-use Rattle.runs.specs.declared.Ran.{Ran}
 use Rattle.runs.specs.Counts.{accepted}
 use Rattle.runs.specs.Run.{entriesIn, cut, entriesOf, replyBytes, repliesFrom, reportOf, counted, refusedAt, ranFrom, untriedOf, ranOf, repliesOf, bufferOf}
+use Rattle.laws.specs.Types.{Refusal, NoRoom, Damaged, TooLong, Machine, Report, Ran}
 use Rattle.laws.specs.Schedules.{applied, tried}
 use Rattle.laws.proofs.Phases.{either}
 

@@ -13,20 +13,16 @@ use Rattle.tallies.specs.Tally.{total}
 use Rattle.tallies.proofs.Lists.{both}
 use Rattle.wire.specs.Bytes.{marked, wordAt}
 use Rattle.answers.specs.Numbers.{numberOf}
-use Rattle.answers.specs.declared.Answer.{Answer}
-use Rattle.answers.specs.declared.Answer.the-variants.{Replied, Refused}
-use Rattle.answers.specs.declared.Reply.the-variants.{Moved, Loaded, Took, Lost, Released}
 use Rattle.tasks.specs.Records.{taskOk}
 use Rattle.steps.specs.Table.{after, raisedOf, loweredOf, rows, effectOf}
 use Rattle.tables.specs.Tables.{sizesOk}
 use Rattle.entries.specs.Entry.{entryOf, nonzero, outside}
 use Rattle.entries.specs.Order.{loadOf, storeOf, releaseOf, callOf, orderOf}
-use Rattle.cells.specs.declared.Machine.{Machine}
-use Rattle.cells.specs.declared.SetupAnswer.the-variants.{Ready}
 use Rattle.cells.specs.Machine.{carriedOf, inRange}
 use Rattle.cells.specs.Apply.{judgedOf, decisionOf, applyOf}
 use Rattle.cells.specs.Setup.{freshOf, setupOf}
 use Rattle.runs.specs.Counts.{anywhere, loadsAt, stepsAt, swapsAt}
+use Rattle.laws.specs.Types.{Answer, Replied, Refused, Moved, Loaded, Took, Lost, Released, Machine, Ready}
 use Rattle.laws.specs.Meaning.{used, free}
 use Rattle.laws.specs.Schedules.{applied, over, Reached, set-up, entered}
 use Rattle.laws.specs.Bytes.{go}

@@ -15,20 +15,12 @@ use Rattle.tallies.specs.Lists.{within}
 use Rattle.tallies.specs.Tally.{bit}
 use Rattle.tallies.proofs.Tally.{bit-le, total-front, total-round, total-gap}
 use Rattle.tallies.proofs.Bounds.{total-last, round-back, round-on}
-use Rattle.answers.specs.declared.Reply.the-variants.{Moved}
-use Rattle.answers.specs.declared.Answer.the-variants.{Replied}
-use Rattle.tasks.specs.declared.NodeNo.{NodeNo}
-use Rattle.tasks.specs.declared.Task.{Task}
 use Rattle.tasks.specs.Records.{nodeNo}
-use Rattle.steps.specs.declared.Seen.{Seen}
-use Rattle.steps.specs.declared.Deed.{Deed}
-use Rattle.steps.specs.declared.Effect.{Effect}
-use Rattle.steps.specs.declared.Effect.the-variants.{Does, Refuses}
 use Rattle.steps.specs.Table.{after, effectOf}
-use Rattle.cells.specs.declared.Machine.{Machine}
 use Rattle.cells.specs.Machine.{seenOf, written, carriedOf}
 use Rattle.cells.specs.Apply.{applyOf}
-use Rattle.laws.specs.Meaning.{Kept}
+use Rattle.laws.specs.Types.{Moved, Replied, NodeNo, Task, Seen, Deed, Effect, Does, Refuses, Machine}
+use Rattle.laws.specs.Kept.{Kept}
 use Rattle.laws.specs.Bytes.{go}
 use Rattle.laws.specs.Solo.{Finished, Within}
 use Rattle.laws.proofs.Phases.{by-phase, either}

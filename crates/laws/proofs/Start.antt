@@ -13,18 +13,14 @@ use Rattle.tallies.specs.Tally.{bit}
 use Rattle.tallies.proofs.Lists.{within-bounds, both, fill-length, fill-at, fill-past}
 use Rattle.tallies.proofs.Tally.{bit-le, tally-fill, total-at, total-join, total-same, total-zero}
 use Rattle.wire.specs.Bytes.{setupMark, marked}
-use Rattle.answers.specs.declared.Refusal.{Refusal}
-use Rattle.answers.specs.declared.Refusal.the-variants.{Sizes as Bad, NotZero, WrongMark, TooShort}
-use Rattle.tasks.specs.declared.Task.{Task}
 use Rattle.tasks.specs.Records.{nodeNo, noTask, idleOwning}
 use Rattle.tasks.specs.Holders.{keeps}
 use Rattle.tables.specs.Tables.{sizesOk, valueGiven}
-use Rattle.cells.specs.declared.Machine.{Machine}
-use Rattle.cells.specs.declared.SetUp.{SetUp}
-use Rattle.cells.specs.declared.SetupAnswer.the-variants.{Ready, Refused as NotSetUp}
 use Rattle.cells.specs.Setup.{blankOf, freshOf, setupOf}
 use Rattle.figure1.specs.Histories.{start}
-use Rattle.laws.specs.Meaning.{points, claims, pointers, claimers, keepers, Kept}
+use Rattle.laws.specs.Types.{Refusal, Sizes as Bad, NotZero, WrongMark, TooShort, Task, Machine, SetUp, Ready, NotSetUp}
+use Rattle.laws.specs.Meaning.{points, claims, pointers, claimers, keepers}
+use Rattle.laws.specs.Kept.{Kept}
 use Rattle.laws.specs.Acts.{Matches}
 use Rattle.laws.proofs.Phases.{by-test}
 

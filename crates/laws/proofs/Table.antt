@@ -13,23 +13,16 @@ use borrow.Author.Tests.{ne-eqb}
 use Rattle.tallies.specs.Tally.{bit, tally}
 use Rattle.tallies.proofs.Tally.{tally-set, tally-at, tally-two, up-at, bit-eq, put-at}
 use Rattle.wire.specs.Bytes.{wordAt}
-use Rattle.tasks.specs.declared.CellNo.{CellNo}
-use Rattle.tasks.specs.declared.NodeNo.{NodeNo}
-use Rattle.tasks.specs.declared.TaskNo.{TaskNo}
-use Rattle.tasks.specs.declared.Task.{Task}
-use Rattle.tasks.specs.declared.Call.the-variants.{Load, Store, Release}
 use Rattle.tasks.specs.Calls.{begunOf}
 use Rattle.tasks.specs.Records.{cellNo, noTask, onward, holding, owning, probing}
 use Rattle.tasks.specs.Phases.{live, passed}
 use Rattle.tasks.specs.Holders.{keeps}
-use Rattle.steps.specs.declared.Write.the-variants.{Nothing, Point, Count, Value}
-use Rattle.steps.specs.declared.Deed.{Deed}
-use Rattle.steps.specs.declared.Effect.the-variants.{Does}
 use Rattle.steps.specs.Table.{after, effectOf}
-use Rattle.cells.specs.declared.Machine.{Machine}
 use Rattle.cells.specs.Machine.{seenOf, written}
 use Rattle.cells.specs.Apply.{applyOf}
-use Rattle.laws.specs.Meaning.{points, claims, pointers, InRange, Kept}
+use Rattle.laws.specs.Types.{CellNo, NodeNo, TaskNo, Task, Load, Store, Release, Nothing, Point, Count, Value, Deed, Does, Machine}
+use Rattle.laws.specs.Meaning.{points, claims, pointers}
+use Rattle.laws.specs.Kept.{InRange, Kept}
 use Rattle.laws.proofs.Phases.{implied}
 use Rattle.laws.proofs.Entries.{by-entry, taskNo}
 use Rattle.laws.proofs.Rows.{Moves, l1, l2, l3-passed, l3-turned, l4, l5, s1, s2-swapped, s2-missed, s3, s4-took, s4-shared, s5, s6-took, s6-busy, s7, r1, moves}

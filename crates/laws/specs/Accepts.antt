@@ -6,8 +6,8 @@ use mathlib.Core.List.{List}
 use mathlib.Core.Logic.{_≢_}
 use lib.ListN.{length, getD}
 use Rattle.wire.specs.Bytes.{entryMark, marked, wordAt}
-use Rattle.cells.specs.declared.Machine.{Machine}
 use Rattle.runs.specs.Counts.{kindOf, taskOf}
+use Rattle.laws.specs.Types.{Machine}
 
 -- what a task may be asked: a step unless it is idle or linked, a load while it is idle, a store to its linked cell, a release while it is linked
 pub data May (m : Machine) (e : List ℕ) : Type 0 where

@@ -7,18 +7,13 @@ use lib.Dec.{eqb}
 use lib.ListN.{getD}
 use Rattle.tallies.specs.Lists.{within}
 use Rattle.wire.specs.Bytes.{wordAt}
-use Rattle.answers.specs.declared.Answer.{Answer}
-use Rattle.answers.specs.declared.Answer.the-variants.{Replied, Refused}
-use Rattle.answers.specs.declared.Reply.{Reply}
-use Rattle.answers.specs.declared.Reply.the-variants.{Moved, Loaded, Took, Lost, Released}
-use Rattle.tasks.specs.declared.Task.{Task}
 use Rattle.tasks.specs.Records.{noTask}
 use Rattle.tasks.specs.Phases.{passed}
-use Rattle.cells.specs.declared.Machine.{Machine}
 use Rattle.cells.specs.Apply.{applyOf}
 use Rattle.runs.specs.Counts.{kindOf, taskOf}
 use Rattle.figure1.specs.Figure1.{Call, load, store, release, Result, value, took, lost, released}
 use Rattle.figure1.specs.Histories.{Status, quiet, asked, acted, State, Event, begins, acts, ends}
+use Rattle.laws.specs.Types.{Answer, Replied, Refused, Reply, Moved, Loaded, Took, Lost, Released, Task, Machine}
 
 -- the value of cell x is that of the node it points at
 abbrev pub valueOfCell : Machine → ℕ → ℕ

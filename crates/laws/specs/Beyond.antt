@@ -4,8 +4,7 @@ use mathlib.Core.Path.{_≡_}
 use mathlib.Core.List.{List}
 use lib.ListN.{length, getD}
 use Rattle.tasks.specs.Records.{noTask}
-use Rattle.cells.specs.declared.Machine.{Machine}
-use Rattle.cells.specs.declared.Applied.{Applied}
+use Rattle.laws.specs.Types.{Machine, Applied}
 
 -- no pointer past N, no value and no count past K, no task past P
 pub record Bare (m : Machine) : Type 0 where

@@ -1,4 +1,6 @@
+pub mod Types
 pub mod Meaning
+pub mod Kept
 pub mod Beyond
 pub mod Outcomes
 pub mod Moves

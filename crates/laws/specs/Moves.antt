@@ -2,15 +2,9 @@
 use Prim.Native.Nat.{ℕ, _+_, _-_, _≤_, _<_}
 use mathlib.Core.Path.{_≡_}
 use mathlib.Core.Logic.{_≢_}
-use Rattle.answers.specs.declared.Reply.{Reply}
-use Rattle.answers.specs.declared.Reply.the-variants.{Moved, Loaded, Took, Lost, Released}
-use Rattle.tasks.specs.declared.Task.{Task}
 use Rattle.tasks.specs.Records.{onward, holding, owning, probing}
-use Rattle.steps.specs.declared.Seen.{Seen}
-use Rattle.steps.specs.declared.Write.{Write}
-use Rattle.steps.specs.declared.Write.the-variants.{Nothing, Point, Count, Value}
-use Rattle.steps.specs.declared.Deed.{Deed}
 use Rattle.steps.specs.Table.{after}
+use Rattle.laws.specs.Types.{Reply, Moved, Loaded, Took, Lost, Released, Task, Seen, Write, Nothing, Point, Count, Value, Deed}
 
 abbrev pub deed : Task → Write → Reply → Deed
 deed t w r = record { task = t; write = w; reply = r }

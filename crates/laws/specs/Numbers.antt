@@ -5,15 +5,12 @@ use mathlib.Core.List.{List, [], _∷_, _++_}
 use lib.Dec.{eqb, ltb}
 use lib.ListN.{length}
 use Rattle.tallies.specs.Tally.{bit}
-use Rattle.answers.specs.declared.Answer.{Answer}
-use Rattle.answers.specs.declared.Answer.the-variants.{Replied, Refused}
 use Rattle.answers.specs.Numbers.{refusalNumber}
-use Rattle.cells.specs.declared.Machine.{Machine}
 use Rattle.cells.specs.Machine.{inRange}
 use Rattle.cells.specs.Apply.{applyOf}
-use Rattle.runs.specs.declared.Report.{Report}
 use Rattle.runs.specs.Counts.{accepted, anywhere, loadsAt, stepsAt, turnedAt, swapsAt}
 use Rattle.runs.specs.Run.{entriesIn, entriesOf, ranOf}
+use Rattle.laws.specs.Types.{Answer, Replied, Refused, Machine, Report}
 use Rattle.laws.specs.Schedules.{over, tried}
 
 -- entries accepted

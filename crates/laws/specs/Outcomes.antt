@@ -5,24 +5,12 @@ use mathlib.Core.Bool.{false}
 use mathlib.Core.List.{List}
 use lib.ListN.{getD}
 use Rattle.wire.specs.Bytes.{wordAt}
-use Rattle.answers.specs.declared.Refusal.{Refusal}
-use Rattle.answers.specs.declared.Refusal.the-variants.{Damaged}
-use Rattle.answers.specs.declared.Answer.the-variants.{Replied}
-use Rattle.answers.specs.declared.Reply.the-variants.{Moved}
-use Rattle.tasks.specs.declared.TaskNo.{TaskNo}
-use Rattle.tasks.specs.declared.Call.{Call}
-use Rattle.tasks.specs.declared.Call.the-variants.{Load, Store, Release}
 use Rattle.tasks.specs.Records.{cellNo}
 use Rattle.tasks.specs.Calls.{begunOf}
-use Rattle.steps.specs.declared.Deed.{Deed}
-use Rattle.steps.specs.declared.Effect.{Effect}
-use Rattle.steps.specs.declared.Effect.the-variants.{Does, Refuses}
-use Rattle.steps.specs.declared.Write.the-variants.{Nothing}
 use Rattle.steps.specs.Table.{effectOf}
-use Rattle.cells.specs.declared.Machine.{Machine}
-use Rattle.cells.specs.declared.Applied.{Applied}
 use Rattle.cells.specs.Machine.{seenOf, written, refusedBy, inRange}
 use Rattle.runs.specs.Counts.{kindOf, taskOf}
+use Rattle.laws.specs.Types.{Refusal, Damaged, Replied, Moved, TaskNo, Call, Load, Store, Release, Deed, Effect, Does, Refuses, Nothing, Machine, Applied}
 
 abbrev pub taskNo : List ℕ → TaskNo
 taskNo e = record { 0 = getD e 2 0 }

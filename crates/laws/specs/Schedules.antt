@@ -4,12 +4,11 @@ use mathlib.Core.Path.{_≡_}
 use mathlib.Core.Bool.{cond}
 use mathlib.Core.List.{List, [], _∷_, _++_}
 use lib.ListN.{getD, take}
-use Rattle.cells.specs.declared.Machine.{Machine}
-use Rattle.cells.specs.declared.SetupAnswer.the-variants.{Ready}
 use Rattle.cells.specs.Apply.{applyOf}
 use Rattle.cells.specs.Setup.{setupOf}
 use Rattle.runs.specs.Counts.{accepted}
 use Rattle.runs.specs.Run.{entriesOf, ranOf}
+use Rattle.laws.specs.Types.{Machine, Ready}
 
 -- the record after a schedule
 unfoldable pub applied : Machine → List (List ℕ) → Machine

@@ -2,8 +2,8 @@
 use Prim.Native.Nat.{ℕ}
 use mathlib.Core.List.{List, [], _∷_, _++_}
 use lib.ListN.{replicate}
-use Rattle.cells.specs.declared.Machine.{Machine}
 use Rattle.cells.specs.Setup.{setupOf}
+use Rattle.laws.specs.Types.{Machine}
 use Rattle.laws.specs.Bytes.{setup, go, load, store}
 
 -- N=1, P=2, K=5, value 7

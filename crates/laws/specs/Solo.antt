@@ -3,11 +3,8 @@ use Prim.Native.Nat.{ℕ, zero, suc}
 use mathlib.Core.Path.{_≡_}
 use mathlib.Core.List.{List}
 use mathlib.Core.Logic.{_⊎_}
-use Rattle.answers.specs.declared.Answer.{Answer}
-use Rattle.answers.specs.declared.Answer.the-variants.{Replied, Refused}
-use Rattle.answers.specs.declared.Reply.the-variants.{Moved, Loaded, Took, Lost, Released}
-use Rattle.cells.specs.declared.Machine.{Machine}
 use Rattle.cells.specs.Apply.{applyOf}
+use Rattle.laws.specs.Types.{Answer, Replied, Refused, Moved, Loaded, Took, Lost, Released, Machine}
 use Rattle.laws.specs.Bytes.{go}
 
 -- a reply that ends a call

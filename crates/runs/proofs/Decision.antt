@@ -1,6 +1,6 @@
 -- The reply and the report of an entry that was decided are those of the entry applied. Assumes nothing.
 use Prim.Native.Nat.{ℕ, min}
-use mathlib.Core.Path.{_≡_, refl, sym, ap, _∙_}
+use mathlib.Core.Path.{_≡_, sym, ap, _∙_}
 use mathlib.Core.Bool.{Bool, true}
 use mathlib.Core.List.{List}
 use native.Mathlib.Omega.{arith}
@@ -10,20 +10,16 @@ use Rattle.tasks.specs.Records.{noTask}
 use Rattle.cells.specs.Machine.{carriedOf}
 use Rattle.cells.specs.Apply.{applyOf}
 use Rattle.cells.proofs.Decide.{decidedOn, Known, applied, applied-does, named}
-use Rattle.runs.specs.Types.{Machine, Applied, Task, Effect, Deed, Does, Refuses, Decision, Report}
+use Rattle.runs.specs.Types.{Machine, Applied, Task, Deed, Does, Decision, Report}
 use Rattle.runs.specs.Counts.{accepted, kindOf, taskOf}
 use Rattle.runs.specs.Run.{counted, replyBytes}
 use Rattle.runs.specs.OneEntry.{countedBy, toldOf, decisionBytes}
 use Rattle.runs.proofs.Laws.{counted-by}
 
-carried-bytes : (m : Machine) (i : ℕ) (e : Effect) → replyBytes (carriedOf m (record { 0 = i }) e) ≡ decisionBytes (record { task = i; effect = e })
-unfolding carriedOf
-carried-bytes m i (Refuses r) = refl
-carried-bytes m i (Does d) = refl
-
 module _ (m : Machine) (x : List ℕ) (t : Task) (inside : Bool) (known : Known m x t inside) (d : Decision) (is : d ≡ decidedOn m t inside x) where
   pub decision-bytes : replyBytes (applyOf m x) ≡ decisionBytes d
-  decision-bytes = ap replyBytes (applied m x t inside known d is) ∙ carried-bytes m (d .task) (d .effect)
+  unfolding carriedOf
+  decision-bytes = ap replyBytes (applied m x t inside known d is)
 
   module _ (y : Deed) (does : d .effect ≡ Does y) where
     pub decision-accepted : accepted (applyOf m x .answer) ≡ true

@@ -15,9 +15,17 @@ use Rattle.cells.proofs.Decide.{decidedOn, Known, applied-refuses, applied-does
 use Rattle.runs.specs.Types.{Machine, Report, Applied, Task, Refusal, Deed, Does, Refuses, Decision}
 use Rattle.runs.specs.Counts.{accepted, kindOf, taskOf}
 use Rattle.runs.specs.Run.{entriesIn, entriesOf, cut, counted, reportOf, refusedAt, ranFrom, replyBytes, repliesFrom}
-use Rattle.runs.specs.OneEntry.{Going, toldOf, decisionBytes}
+use Rattle.runs.specs.OneEntry.{Few, toldOf, decisionBytes}
 use Rattle.runs.proofs.Decision.{decision-bytes, decision-accepted, decision-counted}
 use Rattle.runs.proofs.Laws.{counted-by, few-more, cut-next, cut-none, ran-on, ran-stops, ran-ends, replies-on, replies-stop, replies-end, over-none, over-more}
+
+-- a run on the bytes s from machine m₀ and buffer o₀ has taken i entries: what is left of it gives the whole
+pub record Going (s o₀ : List ℕ) (m₀ : Machine) (o : List ℕ) (m : Machine) (r : Report) (i : ℕ) : Type 0 where
+  pub taken : i ≤ entriesIn s
+  pub few : Few i r
+  pub long : length o ≡ length o₀
+  pub ran : ranFrom m r (cut (entriesIn s - i) (drop (10 * i) s)) ≡ ranFrom m₀ (reportOf 0) (entriesOf s)
+  pub replies : overlaid o (8 * i) (repliesFrom m (cut (entriesIn s - i) (drop (10 * i) s))) ≡ overlaid o₀ 0 (repliesFrom m₀ (entriesOf s))
 
 -- the part of the bytes that a run hands on is the next entry
 pub piece : (s : List ℕ) (at : ℕ) → at ≤ length s → take (min (at + 10) (length s) - at) (drop at s) ≡ take 10 (drop at s)

@@ -1,16 +1,15 @@
 -- One entry of a run, as the private functions say it: what it counts for by its kind and its task's phase before (f) and after (f′).
-use Prim.Native.Nat.{ℕ, _+_, _-_, _*_, _≤_}
-use mathlib.Core.Path.{_≡_}
+use Prim.Native.Nat.{ℕ, _+_, _≤_}
 use mathlib.Core.Bool.{_&&_}
 use mathlib.Core.List.{List}
 use lib.Dec.{eqb}
-use lib.ListN.{length, drop}
 use Rattle.tallies.specs.Lists.{within}
 use Rattle.tallies.specs.Tally.{bit}
 use Rattle.answers.specs.Numbers.{refusalNumber, numberOf, valueOf}
-use Rattle.wire.specs.Bytes.{replyOf, overlaid}
-use Rattle.runs.specs.Types.{Machine, Report, Answer, Replied, Refused, Effect, Does, Refuses, Decision}
-use Rattle.runs.specs.Run.{entriesIn, entriesOf, cut, reportOf, refusedAt, ranFrom, repliesFrom}
+use Rattle.wire.specs.Bytes.{replyOf}
+use Rattle.steps.specs.Table.{answerOf}
+use Rattle.runs.specs.Types.{Report, Effect, Does, Refuses, Decision}
+use Rattle.runs.specs.Run.{refusedAt}
 
 abbrev pub loadBegun : ℕ → ℕ
 loadBegun kind = bit (eqb kind 1)
@@ -46,19 +45,6 @@ abbrev pub toldOf : Report → ℕ → ℕ → Effect → Report
 toldOf r kind f (Refuses x) = refusedAt (refusalNumber x) r
 toldOf r kind f (Does d) = countedBy r kind f (d .task .phase)
 
--- what an effect is answered with
-abbrev pub answerOf : Effect → Answer
-answerOf (Refuses x) = Refused x
-answerOf (Does d) = Replied (d .reply)
-
 -- the reply to an entry that is decided
 abbrev pub decisionBytes : Decision → List ℕ
 decisionBytes d = replyOf (numberOf (answerOf (d .effect))) (d .task) (valueOf (answerOf (d .effect)))
-
--- a run on the bytes s from machine m₀ and buffer o₀ has taken i entries: what is left of it gives the whole
-pub record Going (s o₀ : List ℕ) (m₀ : Machine) (o : List ℕ) (m : Machine) (r : Report) (i : ℕ) : Type 0 where
-  pub taken : i ≤ entriesIn s
-  pub few : Few i r
-  pub long : length o ≡ length o₀
-  pub ran : ranFrom m r (cut (entriesIn s - i) (drop (10 * i) s)) ≡ ranFrom m₀ (reportOf 0) (entriesOf s)
-  pub replies : overlaid o (8 * i) (repliesFrom m (cut (entriesIn s - i) (drop (10 * i) s))) ≡ overlaid o₀ 0 (repliesFrom m₀ (entriesOf s))

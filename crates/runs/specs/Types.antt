@@ -1,5 +1,4 @@
 -- The types of a run under one name.
-pub use Rattle.tasks.specs.declared.TaskNo.{TaskNo}
 pub use Rattle.tasks.specs.declared.Task.{Task}
 pub use Rattle.answers.specs.declared.Answer.{Answer}
 pub use Rattle.answers.specs.declared.Answer.the-variants.{Replied, Refused}

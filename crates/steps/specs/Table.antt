@@ -6,7 +6,7 @@ use mathlib.Core.List.{List, [], _∷_}
 use lib.Dec.{eqb, ltb}
 use lib.ListN.{getD}
 use Rattle.tasks.specs.Records.{nodeNo, onward, holding, owning, probing}
-use Rattle.steps.specs.Types.{NodeNo, Task, Reply, Moved, Loaded, Took, Lost, Released, NoStep, Damaged, Seen, Write, Nothing, Point, Count, Value, Counted, To, Broken, Effect, Does, Refuses}
+use Rattle.steps.specs.Types.{NodeNo, Task, Reply, Moved, Loaded, Took, Lost, Released, NoStep, Damaged, Answer, Replied, Refused, Seen, Write, Nothing, Point, Count, Value, Counted, To, Broken, Effect, Does, Refuses}
 
 -- (v + 1) mod k. K is never 0 in a record that is in range; the definition gives 0 there.
 unfoldable pub after : ℕ → NodeNo → NodeNo
@@ -106,3 +106,8 @@ rows = none ∷ l1 ∷ l2 ∷ l3 ∷ l4 ∷ l5 ∷ none ∷ s1 ∷ s2 ∷ s3 ∷
 -- what a step does is decided by the phase number
 unfoldable pub effectOf : Task → Seen → Effect
 effectOf t s = getD rows (t .phase) beyond t s
+
+-- what an effect is answered with, and so its number and value
+abbrev pub answerOf : Effect → Answer
+answerOf (Refuses r) = Refused r
+answerOf (Does d) = Replied (d .reply)

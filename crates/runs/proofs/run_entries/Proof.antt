@@ -10,9 +10,8 @@ use Rattle.tables.proofs.Laws.{length-mapped}
 use Rattle.cells.proofs.Decide.{Known, named}
 use Rattle.cells.proofs.Written.{Long, put-written, long-written}
 use Rattle.runs.specs.Types.{Machine, Task}
-use Rattle.runs.specs.OneEntry.{Going}
 use Rattle.runs.proofs.Laws.{few-le}
-use Rattle.runs.proofs.Going.{piece, starts, ends, fits, decision-stops, decision-goes-on}
+use Rattle.runs.proofs.Going.{Going, piece, starts, ends, fits, decision-stops, decision-goes-on}
 use Rattle.runs.proofs.run_entries.Statement.{statement}
 use Rattle.runs.proofs.run_entries.Tie as tie
 
