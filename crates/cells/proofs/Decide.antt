@@ -73,6 +73,11 @@ gated : (a b c : Bool) → (a ≡ true → b ≡ c) → (a && b) ≡ (a && c)
 gated true b c h = h refl
 gated false b c h = refl
 
+-- and a decision behind the range test only where that holds
+pub guarded-same : (b : Bool) (d d′ : Decision) → (b ≡ true → d ≡ d′) → guarded b d ≡ guarded b d′
+guarded-same true d d′ h = h refl
+guarded-same false d d′ h = refl
+
 -- the two range tests, of the tables and of the first 16 task records, are the whole one
 pub range-tests : (m : Machine) → inRange m ≡ (tablesOk (m .n) (m .p) (m .k) (m .cells) (m .counts) && every (taskOkIn (m .tasks) (m .n) (m .k)) (min (m .p) 16))
 unfolding inRange
@@ -93,10 +98,6 @@ module _ (m : Machine) (s : List ℕ) (t : Task) (inside : Bool) (known : Known 
 
   abbrev ok : Bool
   ok = tablesOk (m .n) (m .p) (m .k) (m .cells) (m .counts)
-
-  guarded-same : (b : Bool) (d d′ : Decision) → (b ≡ true → d ≡ d′) → guarded b d ≡ guarded b d′
-  guarded-same true d d′ h = h refl
-  guarded-same false d d′ h = refl
 
   decided-same : decidedOn m t inside s ≡ decisionOf m s
   unfolding decidedOf decisionOf entryOf

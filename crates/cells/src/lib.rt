@@ -26,7 +26,7 @@ ghost use Rattle.cells.specs.Machine.{seenIn, cellsBy, valuesBy, countsB
 ghost use Rattle.cells.specs.Apply.{decidedOf, applyOf};
 ghost use Rattle.cells.specs.Setup.{blankOf, freshOf, refusedSetup, setupOf, setupNumber, setupBytes};
 
-// N, P and K; the node that each cell points at; each node's value and count; the task records. Places past N, P and K are never looked at.
+// N, P and K; the node that each cell points at; each node's value and count; the task records. What stands past N, P and K makes no difference.
 pub struct Machine {
     pub n: u8,
     pub p: u8,

@@ -1,7 +1,7 @@
 -- A bench by rows has no fault of its own: by document 01's rows it is the true one, on every record and all bytes. Assumes nothing.
 use Prim.Native.Nat.{ℕ}
 use mathlib.Core.Path.{_≡_, refl, sym, _∙_}
-use mathlib.Core.Bool.{Bool, true, false, cond}
+use mathlib.Core.Bool.{true}
 use mathlib.Core.List.{List}
 use lib.Dec.{eqb, ltb}
 use lib.ListN.{List·getD-map}
@@ -18,12 +18,8 @@ use Rattle.cells.specs.declared.Machine.{Machine}
 use Rattle.cells.specs.declared.Applied.{Applied}
 use Rattle.cells.specs.Machine.{seenOf, carriedOf, inRange}
 use Rattle.cells.specs.Apply.{judgedOf, decisionOf, applyOf}
+use Rattle.laws.proofs.Phases.{by-test}
 use Rattle.faults.specs.Benches.{asWritten, table, stepBy, goes, readBy, applyBy}
-
--- by how a test came out
-by-test : {A : Type 0} (t : Bool) (a b c : A) → (t ≡ true → a ≡ c) → (t ≡ false → b ≡ c) → cond t a b ≡ c
-by-test true a b c f g = f refl
-by-test false a b c f g = g refl
 
 -- what the order of refusals makes of an entry
 abbrev obeyed : Machine → Entry → Applied
@@ -49,8 +45,8 @@ whole m s e h k = rw (h, k)
 
 read-own : (m : Machine) (s : List ℕ) (r : EntryRead) → inRange m ≡ true → entryOf s ≡ r → readBy table m s r ≡ applyOf m s
 read-own m s (Unread r) h k = refl
-read-own m s (Whole e) h k = by-test (goes m e) (stepBy table m e) (applyOf m s) (applyOf m s) (λ g. step-own m e g ∙ sym (whole m s e h k)) (λ g. refl)
+read-own m s (Whole e) h k = by-test (λ a. a ≡ applyOf m s) (goes m e) _ _ (λ g. step-own m e g ∙ sym (whole m s e h k)) (λ g. refl)
 
 pub own-rows : (m : Machine) (s : List ℕ) → applyBy table m s ≡ applyOf m s
 unfolding applyBy
-own-rows m s = by-test (inRange m) (readBy table m s (entryOf s)) (applyOf m s) (applyOf m s) (λ h. read-own m s (entryOf s) h refl) (λ h. refl)
+own-rows m s = by-test (λ a. a ≡ applyOf m s) (inRange m) _ _ (λ h. read-own m s (entryOf s) h refl) (λ h. refl)

@@ -1,9 +1,9 @@
--- The places past N, P and K stay zero, and no entry looks at them. Assumes nothing.
+-- The places past N, P and K stay zero, and what stands there makes no difference to an entry. Assumes nothing.
 use Prim.Native.Nat.{ℕ, _+_, _≤_, _<_}
 use native.Mathlib.Omega.{arith}
 use native.Mathlib.Decide.{decLe, decLt, ℕ-discrete}
 use mathlib.Core.Path.{_≡_, refl, sym, ap, _∙_, subst}
-use mathlib.Core.Bool.{Bool, true, false, _&&_}
+use mathlib.Core.Bool.{Bool, true, _&&_}
 use mathlib.Core.List.{List, [], _∷_}
 use lib.Dec.{leb, ltb}
 use lib.ListN.{length, getD, set, replicate, length-set, length-replicate, getD-replicate, List·getD-eq-default}
@@ -18,6 +18,7 @@ use Rattle.entries.specs.Order.{orderOf}
 use Rattle.cells.specs.Machine.{seenOf, cellsAfter, valuesAfter, countsAfter, written, carriedOf, tablesOk, inRange}
 use Rattle.cells.specs.Apply.{judgedOf, guarded, decisionOf, carriedBy, applyOf}
 use Rattle.cells.specs.Setup.{freshOf}
+use Rattle.cells.proofs.Decide.{guarded-same}
 use Rattle.runs.specs.Counts.{taskOf}
 use Rattle.laws.specs.Types.{TaskNo, Task, Seen, Write, Nothing, Point, Count, Value, Deed, Effect, Does, Refuses, Entry, EntryRead, Whole, Unread, Machine, Decision}
 use Rattle.laws.specs.Kept.{InRange, Kept}
@@ -121,7 +122,7 @@ reached-bare {m} r =
     let fresh = by-setup (c .setup) (c .used) Bare (λ n p k z. fresh-bare n p k (c .setup) z) (c .ready) in
     subst Bare (c .reaches) (schedule-bare (c .entries) _ (setup-kept (c .setup) (c .used) (c .ready)) fresh)
 
--- THEY ARE NEVER LOOKED AT
+-- WHAT STANDS THERE MAKES NO DIFFERENCE
 
 set-agree : {A : Type 0} (d : A) (k : ℕ) (l l′ : List A) (i : ℕ) (a : A) → Agree d k l l′ → Agree d k (set l i a) (set l′ i a)
 set-agree d k l l′ i a g =
@@ -227,11 +228,8 @@ module _ (m : Machine) (cs vs ns : List ℕ) (ts : List Task) (C : Agree 0 (m .n
 
   decision-same : (e : List ℕ) → decisionOf m e ≡ decisionOf m′ e
   unfolding decisionOf
-  decision-same e = guarded-same (inRange m) (inRange m′) _ _ range-same (λ h. judged-same h (entryOf e))
-    where
-      guarded-same : (b b′ : Bool) (d d′ : Decision) → b ≡ b′ → (b ≡ true → d ≡ d′) → guarded b d ≡ guarded b′ d′
-      guarded-same true b′ d d′ q f = rw (← q) (f refl)
-      guarded-same false b′ d d′ q f = rw (← q)
+  decision-same e =
+      guarded-same (inRange m) _ _ (λ h. judged-same h (entryOf e)) ∙ ap (λ (b : Bool). guarded b (judgedOf (m .n) (m .p) (taskIn ts) (seenOf m′) (entryOf e))) range-same
 
   tables-alike : (e : List ℕ) → Alike-after (applyOf m e) (applyOf m′ e)
   unfolding applyOf

@@ -84,9 +84,9 @@ never-damaged {m} r = (in-range m (reached-kept r), entry-undamaged m (reached-k
 pub zero-past : {m : Machine} → Reached m → Bare m
 zero-past = reached-bare
 
--- and no entry looks there: records that are alike below N, P and K get the same answers and stay alike (Beyond)
-pub never-looked-at : (m m′ : Machine) → Alike m m′ → (e : List ℕ) → Alike-after (applyOf m e) (applyOf m′ e)
-never-looked-at = entry-alike
+-- and what stands there makes no difference: records that are alike below N, P and K get the same answers and stay alike (Beyond)
+pub past-makes-no-difference : (m m′ : Machine) → Alike m m′ → (e : List ℕ) → Alike-after (applyOf m e) (applyOf m′ e)
+past-makes-no-difference = entry-alike
 
 -- DEMAND 2. An accepted entry does the step of document 01's table and nothing else; and over every schedule from an accepted setup the cells'
 -- values and what finished calls gave are figure 1's, each call acting where the demand says (`actsFrom` in laws/specs/Acts).
