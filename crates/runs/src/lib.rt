@@ -128,7 +128,7 @@ fn entry_end(at: usize, n: usize) -> usize
     if 10 <= n - at { at + 10 } else { n }
 }
 
-// The entries one after the other, up to the first refused one.
+// The entries one after the other, up to the first refused one. The record stays where it is: handing it over by value would copy it at each entry.
 fn run_entries(m: Machine, s: &[u8], out: &mut [u8]) -> Ran
     requires { ⌜ (length (now s) ≤ 65530) × (8 * entriesIn (now s) ≤ length (now out)) ⌝ }
     ensures { λ r. ⌜ (r ≡ ranFrom m (reportOf 0) (entriesOf (now (s .entry)))) × (now (out .exit) ≡ overlaid (now (out .entry)) 0 (repliesFrom m (entriesOf (now (s .entry))))) ⌝ }
