@@ -1,6 +1,6 @@
 -- Document 01's number and value for each case of an answer. (24 belongs to the holders question, in the crate tasks.)
 use Prim.Native.Nat.{ℕ}
-use Rattle.answers.specs.Types.{Reply, Moved, Loaded, Took, Lost, Released, Refusal, Sizes, NoTask, NoKind, NoCell, NotZero, NotNow, NoStep, OtherCell, WrongMark, TooShort, NoRoom, Damaged, TooLong, Answer, Replied, Refused}
+use Rattle.answers.specs.Types.{Reply, Moved, Loaded, Took, Lost, Released, Good, Gone, Refusal, Sizes, NoTask, NoKind, NoCell, NotZero, NotNow, NoStep, OtherCell, WrongMark, TooShort, NoRoom, Damaged, TooLong, Answer, Replied, Refused}
 
 abbrev pub replyNumber : Reply → ℕ
 replyNumber Moved = 0  -- begun or moved
@@ -8,6 +8,8 @@ replyNumber (Loaded v) = 1  -- load finished, with its value
 replyNumber Took = 2  -- store took
 replyNumber Lost = 3  -- store lost
 replyNumber Released = 4  -- released
+replyNumber Good = 5  -- validated: the link is good
+replyNumber Gone = 6  -- validated: the link is gone
 
 -- 0 except for a finished load
 abbrev pub replyValue : Reply → ℕ
@@ -16,14 +18,16 @@ replyValue (Loaded v) = v
 replyValue Took = 0
 replyValue Lost = 0
 replyValue Released = 0
+replyValue Good = 0
+replyValue Gone = 0
 
 abbrev pub refusalNumber : Refusal → ℕ
 refusalNumber Sizes = 11  -- setup: N, P or K outside the sizes
 refusalNumber NoTask = 12  -- entry's task is P or more
-refusalNumber NoKind = 13  -- kind above 3
+refusalNumber NoKind = 13  -- kind above 4
 refusalNumber NoCell = 14  -- load or store of a cell N or more
 refusalNumber NotZero = 15  -- a byte that must be zero isn't
-refusalNumber NotNow = 16  -- load while not idle; store or release while not linked
+refusalNumber NotNow = 16  -- load while not idle; store, release or validate while not linked
 refusalNumber NoStep = 17  -- go while idle or linked
 refusalNumber OtherCell = 18  -- store on a cell other than the linked one
 refusalNumber WrongMark = 19  -- wrong mark

@@ -9,6 +9,8 @@ pub enum Reply {
     Took,
     Lost,
     Released,
+    Good,
+    Gone,
 }
 
 // Why nothing was done, by the rule that was broken; the numbers are in specs/Numbers.antt.
@@ -42,6 +44,8 @@ pub fn reply_number(r: Reply) -> u8
         Reply::Took => 2,
         Reply::Lost => 3,
         Reply::Released => 4,
+        Reply::Good => 5,
+        Reply::Gone => 6,
     }
 }
 
@@ -54,6 +58,8 @@ pub fn reply_value(r: Reply) -> u32
         Reply::Took => 0,
         Reply::Lost => 0,
         Reply::Released => 0,
+        Reply::Good => 0,
+        Reply::Gone => 0,
     }
 }
 

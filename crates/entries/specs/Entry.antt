@@ -25,7 +25,7 @@ entryOf s =
 abbrev pub names : ℕ → Bool
 names kind = eqb kind 1 || eqb kind 2
 
--- a byte that must be zero isn't: the spare byte; the cell of go and release; the value of all but store
+-- a byte that must be zero isn't: the spare byte; the cell of go, release and validate; the value of all but store
 unfoldable pub nonzero : Entry → Bool
 nonzero e =
     not (eqb (e .spare) 0)

@@ -4,7 +4,7 @@ use mathlib.Core.Bool.{cond, not}
 use lib.Dec.{eqb, leb, ltb}
 use Rattle.tasks.specs.Calls.{begunOf}
 use Rattle.steps.specs.Table.{does, effectOf}
-use Rattle.entries.specs.Types.{CellNo, Task, Call, Load, Store, Release, Moved, NoTask, NoKind, NoCell, NotZero, NotNow, OtherCell, Seen, Nothing, Effect, Refuses, Entry}
+use Rattle.entries.specs.Types.{CellNo, Task, Call, Load, Store, Release, Validate, Moved, NoTask, NoKind, NoCell, NotZero, NotNow, OtherCell, Seen, Nothing, Effect, Refuses, Entry}
 use Rattle.entries.specs.Entry.{nonzero, outside}
 
 -- a call starts: one task's record changes, and nothing else
@@ -24,25 +24,26 @@ storeOf t x y =
     (cond (not (eqb (x .0) (t .cell .0))) (Refuses OtherCell)  -- 18
     (begins t (Store y)))
 
--- a release starts where the task is linked
-unfoldable pub releaseOf : Task → Effect
-releaseOf t =
+-- a release and a validate start where the task is linked
+unfoldable pub linkedOf : Task → Call → Effect
+linkedOf t c =
     cond (not (eqb (t .phase) 6)) (Refuses NotNow)  -- 16
-    (begins t Release)
+    (begins t c)
 
--- kinds: 0 go, 1 load, 2 store, 3 release; a go is refused by the table itself (17, and 22 for the step)
+-- kinds: 0 go, 1 load, 2 store, 3 release, 4 validate; a go is refused by the table itself (17, and 22 for the step)
 unfoldable pub callOf : Entry → Task → Seen → Effect
 callOf e t s =
     cond (eqb (e .kind) 0) (effectOf t s)
     (cond (eqb (e .kind) 1) (loadOf t (e .cell))
     (cond (eqb (e .kind) 2) (storeOf t (e .cell) (e .value))
-    (releaseOf t)))
+    (cond (eqb (e .kind) 3) (linkedOf t Release)
+    (linkedOf t Validate))))
 
 -- in a machine of n cells and p tasks
 unfoldable pub orderOf : ℕ → ℕ → Entry → Task → Seen → Effect
 orderOf n p e t s =
     cond (leb p (e .task .0)) (Refuses NoTask)  -- 12
-    (cond (ltb 3 (e .kind)) (Refuses NoKind)  -- 13
+    (cond (ltb 4 (e .kind)) (Refuses NoKind)  -- 13
     (cond (nonzero e) (Refuses NotZero)  -- 15
     (cond (outside n e) (Refuses NoCell)  -- 14
     (callOf e t s))))  -- 16 or 17, 18, 22 (the step)

@@ -2,7 +2,7 @@
 pub use Rattle.tasks.specs.declared.CellNo.{CellNo}
 pub use Rattle.tasks.specs.declared.Task.{Task}
 pub use Rattle.tasks.specs.declared.Call.{Call}
-pub use Rattle.tasks.specs.declared.Call.the-variants.{Load, Store, Release}
+pub use Rattle.tasks.specs.declared.Call.the-variants.{Load, Store, Release, Validate}
 pub use Rattle.answers.specs.declared.Reply.the-variants.{Moved}
 pub use Rattle.answers.specs.declared.Refusal.the-variants.{NoTask, NoKind, NoCell, NotZero, NotNow, OtherCell, WrongMark, TooShort}
 pub use Rattle.steps.specs.declared.Seen.{Seen}

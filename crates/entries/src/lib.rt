@@ -11,7 +11,7 @@ use tasks::Task;
 use tasks::TaskNo;
 ghost use mathlib.Core.Path.{_≡_};
 ghost use Rattle.entries.specs.Entry.{entryOf, nonzero, outside};
-ghost use Rattle.entries.specs.Order.{begins, loadOf, storeOf, releaseOf, callOf, orderOf};
+ghost use Rattle.entries.specs.Order.{begins, loadOf, storeOf, linkedOf, callOf, orderOf};
 
 pub struct Entry {
     pub task: TaskNo,
@@ -114,13 +114,14 @@ fn store(t: Task, x: CellNo, y: u32) -> Effect
     begin_call(t, Call::Store(y))
 }
 
-fn release(t: Task) -> Effect
-    ensures { λ r. ⌜ r ≡ releaseOf t ⌝ }
+// A release or a validate: a call on the cell that the task is linked to.
+fn linked_call(t: Task, c: Call) -> Effect
+    ensures { λ r. ⌜ r ≡ linkedOf t c ⌝ }
 {
     if t.phase != 6 {
         return Effect::Refuses(Refusal::NotNow);
     }
-    begin_call(t, Call::Release)
+    begin_call(t, c)
 }
 
 // What the kind asks of the task; go is 0.
@@ -132,7 +133,8 @@ fn call(e: Entry, t: Task, s: Seen) -> Effect
         0 => steps::step(t, s),
         1 => load(t, e.cell),
         2 => store(t, e.cell, e.value),
-        _ => release(t),
+        3 => linked_call(t, Call::Release),
+        _ => linked_call(t, Call::Validate),
     }
 }
 
@@ -144,7 +146,7 @@ pub fn order(n: u8, p: u8, e: Entry, t: Task, s: Seen) -> Effect
     if p <= e.task.0 {
         return Effect::Refuses(Refusal::NoTask);
     }
-    if 3 < kind {
+    if 4 < kind {
         return Effect::Refuses(Refusal::NoKind);
     }
     if nonzero(e) {

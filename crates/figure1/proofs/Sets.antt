@@ -2,10 +2,10 @@
 -- they check the definitions in specs/Figure1, for whoever reads those beside figure 1, and two must-fail edits are refused here. Assumes nothing.
 use Prim.Native.Nat.{ℕ}
 use mathlib.Core.Path.{_≡_, refl, ap}
-use mathlib.Core.Bool.{Bool, true, false}
+use mathlib.Core.Bool.{Bool, true, false, cond}
 use mathlib.Core.Logic.{_≢_}
 use borrow.Author.Tests.{eq-eqb, ne-eqb}
-use Rattle.figure1.specs.Figure1.{Cells, load, store, release, took, lost, nobody, figure1}
+use Rattle.figure1.specs.Figure1.{Cells, load, store, release, validate, took, lost, good, gone, nobody, figure1}
 use Rattle.figure1.proofs.Put.{put-same}
 
 module _ (c : Cells) (p : ℕ) where
@@ -40,3 +40,12 @@ module _ (c : Cells) (p : ℕ) where
   -- a store by a task outside the set is lost and changes nothing
   pub store-misses : (x y : ℕ) → c .member x p ≡ false → (figure1 c p (store x y) .result ≡ lost) × (figure1 c p (store x y) .cells ≡ c)
   store-misses x y h = (rw h, rw h)
+
+  -- a validate changes nothing, and tells what a store in its place would give
+  pub validate-changes-nothing : (x : ℕ) → figure1 c p (validate x) .cells ≡ c
+  validate-changes-nothing x = refl
+
+  pub validate-foretells : (x y : ℕ) (b : Bool) → c .member x p ≡ b
+      → (figure1 c p (validate x) .result ≡ cond b good gone) × (figure1 c p (store x y) .result ≡ cond b took lost)
+  validate-foretells x y true h = (rw h, rw h)
+  validate-foretells x y false h = (rw h, rw h)

@@ -16,12 +16,15 @@ pub data Call : Type 0 where
   load : ℕ → Call
   store : ℕ → ℕ → Call
   release : ℕ → Call
+  validate : ℕ → Call
 
 pub data Result : Type 0 where
   value : ℕ → Result
   took : Result
   lost : Result
   released : Result
+  good : Result
+  gone : Result
 
 -- a call's two effects: on the cells, and its result
 pub record Given : Type 0 where
@@ -34,9 +37,11 @@ nobody p = false
 -- by task p.  LL(x): p joins S[x], and the value of x is returned.
 -- SC(x, y): if p is in S[x] then S[x] is emptied, x becomes y, true is returned; else nothing changes and false is returned.
 -- release(x), document 01's addition: p leaves S[x].
+-- VL(x), from source 004: nothing changes, and true is returned if p is in S[x], else false. (specs/Validate has source 004's own words.)
 abbrev pub figure1 : Cells → ℕ → Call → Given
 figure1 c p (load x) = record { cells = record { val = c .val; member = put (c .member) x (put (c .member x) p true) }; result = value (c .val x) }
 figure1 c p (store x y) =
     cond (c .member x p) (record { cells = record { val = put (c .val) x y; member = put (c .member) x nobody }; result = took })
     (record { cells = c; result = lost })
 figure1 c p (release x) = record { cells = record { val = c .val; member = put (c .member) x (put (c .member x) p false) }; result = released }
+figure1 c p (validate x) = record { cells = c; result = cond (c .member x p) good gone }

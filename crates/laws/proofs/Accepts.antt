@@ -12,14 +12,14 @@ use Rattle.wire.specs.Bytes.{entryMark, marked, wordAt}
 use Rattle.tasks.specs.Records.{cellNo}
 use Rattle.steps.specs.Table.{rows, effectOf}
 use Rattle.entries.specs.Entry.{entryOf, nonzero, outside}
-use Rattle.entries.specs.Order.{loadOf, storeOf, releaseOf, callOf, orderOf}
+use Rattle.entries.specs.Order.{loadOf, storeOf, linkedOf, callOf, orderOf}
 use Rattle.tables.specs.Tables.{taskIn}
 use Rattle.cells.specs.Machine.{seenOf, carriedOf, inRange}
 use Rattle.cells.specs.Apply.{judgedOf, decisionOf, carriedBy, applyOf}
 use Rattle.runs.specs.Counts.{accepted, kindOf, taskOf}
 use Rattle.laws.specs.Types.{Refusal, NoTask, NoKind, NoCell, NotZero, NotNow, OtherCell, Task, Effect, Does, Refuses, Entry, EntryRead, Machine, Decision}
 use Rattle.laws.specs.Kept.{Kept}
-use Rattle.laws.specs.Accepts.{May, go, load, store, release, Fits}
+use Rattle.laws.specs.Accepts.{May, go, load, store, release, validate, Fits}
 use Rattle.laws.proofs.Phases.{by-test}
 use Rattle.laws.proofs.Entries.{taskNo}
 use Rattle.laws.proofs.Damage.{in-range, Steady, steady}
@@ -48,14 +48,15 @@ module _ (m : Machine) (K : Kept m) (e : List ℕ) where
   Read r = accepted (carriedBy m (judgedOf (m .n) (m .p) (taskIn (m .tasks)) (seenOf m) r) .answer) ≡ true
 
   module _ (f : Fits m e) where
-    kinds : kindOf e ≤ 3
+    kinds : kindOf e ≤ 4
     kinds = at-most (f .asks)
       where
-        at-most : May m e → kindOf e ≤ 3
+        at-most : May m e → kindOf e ≤ 4
         at-most (go k c y f0 f6) = omega arith
         at-most (load k c y f0) = omega arith
         at-most (store k c f6) = omega arith
         at-most (release k c y f6) = omega arith
+        at-most (validate k c y f6) = omega arith
 
     zeros : nonzero entry ≡ false
     unfolding nonzero
@@ -66,6 +67,7 @@ module _ (m : Machine) (K : Kept m) (e : List ℕ) where
         by-kind (load k c y f0) = rw (f .zero, k, y)
         by-kind (store k c f6) = rw (f .zero, k)
         by-kind (release k c y f6) = rw (f .zero, k, c, y)
+        by-kind (validate k c y f6) = rw (f .zero, k, c, y)
 
     within : outside (m .n) entry ≡ false
     unfolding outside
@@ -76,6 +78,7 @@ module _ (m : Machine) (K : Kept m) (e : List ℕ) where
         by-kind (load k c y f0) = rw (k, lt-leb (m .n) (getD e 4 0) c)
         by-kind (store k c f6) = rw (k, c, lt-leb (m .n) (t .cell .0) (K .sound .each (getD e 2 0) (f .task) .cell))
         by-kind (release k c y f6) = rw k
+        by-kind (validate k c y f6) = rw k
 
     -- a step is made where the task is neither idle nor linked
     made : t .phase ≢ 0 → t .phase ≢ 6 → (x : Effect) → Steady m K (t .phase) x → Taken x
@@ -89,11 +92,12 @@ module _ (m : Machine) (K : Kept m) (e : List ℕ) where
         off false false f g h = h
 
     called : May m e → Taken (callOf entry t (seenOf m t))
-    unfolding callOf loadOf storeOf releaseOf carriedOf
+    unfolding callOf loadOf storeOf linkedOf carriedOf
     called (go k c y f0 f6) = rw k (made f0 f6 (effectOf t (seenOf m t)) (steady m K (getD e 2 0) (f .task)))
     called (load k c y f0) = rw (k, f0)
     called (store k c f6) = rw (k, f6, eq-eqb (getD e 4 0) (t .cell .0) c)
     called (release k c y f6) = rw (k, f6)
+    called (validate k c y f6) = rw (k, f6)
 
     pub takes : accepted (applyOf m e .answer) ≡ true
     unfolding applyOf decisionOf judgedOf orderOf entryOf
@@ -102,7 +106,7 @@ module _ (m : Machine) (K : Kept m) (e : List ℕ) where
         (λ q. by-test Read (ltb (length e) 10) _ _ (λ w. absurd (omega (arith, f .whole, ltb-true (length e) 10 w)))
         (λ w. by-test Read (not (marked entryMark e)) _ _ (λ x. absurd (false≢true (sym (not-true _ x) ∙ f .mark)))
         (λ x. by-test Taken (leb (m .p) (getD e 2 0)) _ _ (λ a. absurd (omega (arith, f .task, leb-true (m .p) (getD e 2 0) a)))
-        (λ a. by-test Taken (ltb 3 (kindOf e)) _ _ (λ b. absurd (omega (arith, kinds, ltb-true 3 (kindOf e) b)))
+        (λ a. by-test Taken (ltb 4 (kindOf e)) _ _ (λ b. absurd (omega (arith, kinds, ltb-true 4 (kindOf e) b)))
         (λ b. by-test Taken (nonzero entry) _ _ (λ c. absurd (false≢true (sym zeros ∙ c)))
         (λ c. by-test Taken (outside (m .n) entry) _ _ (λ d. absurd (false≢true (sym within ∙ d))) (λ d. called (f .asks))))))))
 
@@ -123,9 +127,9 @@ module _ (m : Machine) (K : Kept m) (e : List ℕ) where
   unfolding effectOf rows carriedOf
   not-linked h q = false≢true (rw q at h)
 
-  told : kindOf e ≤ 3 → nonzero entry ≡ false → outside (m .n) entry ≡ false → Told (callOf entry t (seenOf m t))
-  unfolding callOf loadOf storeOf releaseOf nonzero outside
-  told h3 hz hn =
+  told : kindOf e ≤ 4 → nonzero entry ≡ false → outside (m .n) entry ≡ false → Told (callOf entry t (seenOf m t))
+  unfolding callOf loadOf storeOf linkedOf nonzero outside
+  told h4 hz hn =
       by-test Told (eqb (kindOf e) 0) _ _
       (λ k h. let z = (rw (eqb-true (kindOf e) 0 k) at hz) in
       go (eqb-true _ _ k) (cell-zero z) (value-zero z) (not-idle h) (not-linked h))
@@ -135,10 +139,14 @@ module _ (m : Machine) (K : Kept m) (e : List ℕ) where
       (λ k1. by-test Told (eqb (kindOf e) 2) _ _
       (λ k. by-test Told (not (eqb (t .phase) 6)) _ _ (λ w. no NotNow)
       (λ w. by-test Told (not (eqb (getD e 4 0) (t .cell .0))) _ _ (λ x. no OtherCell) (λ x h. store (eqb-true _ _ k) (eqb-true _ _ (not-false _ x)) (eqb-true _ _ (not-false _ w)))))
-      (λ k2. by-test Told (not (eqb (t .phase) 6)) _ _ (λ w. no NotNow)
-      (λ w h. let k : kindOf e ≡ 3 = omega (arith, eqb-false (kindOf e) 0 k0, eqb-false (kindOf e) 1 k1, eqb-false (kindOf e) 2 k2) in
+      (λ k2. by-test Told (eqb (kindOf e) 3) _ _
+      (λ k. by-test Told (not (eqb (t .phase) 6)) _ _ (λ w. no NotNow)
+      (λ w h. let z = (rw (eqb-true (kindOf e) 3 k) at hz) in
+      release (eqb-true _ _ k) (cell-zero z) (value-zero z) (eqb-true _ _ (not-false _ w))))
+      (λ k3. by-test Told (not (eqb (t .phase) 6)) _ _ (λ w. no NotNow)
+      (λ w h. let k : kindOf e ≡ 4 = omega (arith, eqb-false (kindOf e) 0 k0, eqb-false (kindOf e) 1 k1, eqb-false (kindOf e) 2 k2, eqb-false (kindOf e) 3 k3) in
       let z = (rw k at hz) in
-      release k (cell-zero z) (value-zero z) (eqb-true _ _ (not-false _ w))))))
+      validate k (cell-zero z) (value-zero z) (eqb-true _ _ (not-false _ w)))))))
     where
       cell-zero : (not (eqb (getD e 5 0) 0) || not (eqb (getD e 4 0) 0) || not (eqb (wordAt e 6) 0)) ≡ false → getD e 4 0 ≡ 0
       cell-zero z =
@@ -159,7 +167,7 @@ module _ (m : Machine) (K : Kept m) (e : List ℕ) where
       (λ q. by-test (λ (r : EntryRead). Read r → Fits m e) (ltb (length e) 10) _ _ (λ w h. absurd (false≢true h))
       (λ w. by-test (λ (r : EntryRead). Read r → Fits m e) (not (marked entryMark e)) _ _ (λ x h. absurd (false≢true h))
       (λ x. by-test Fit (leb (m .p) (getD e 2 0)) _ _ (λ a. no NoTask)
-      (λ a. by-test Fit (ltb 3 (kindOf e)) _ _ (λ b. no NoKind)
+      (λ a. by-test Fit (ltb 4 (kindOf e)) _ _ (λ b. no NoKind)
       (λ b. by-test Fit (nonzero entry) _ _ (λ c. no NotZero)
       (λ c. by-test Fit (outside (m .n) entry) _ _ (λ d. no NoCell)
       (λ d h. record {
@@ -167,7 +175,7 @@ module _ (m : Machine) (K : Kept m) (e : List ℕ) where
         mark = not-false _ x;
         task = leb-false (m .p) (getD e 2 0) a;
         zero = byte-zero c;
-        asks = told (ltb-false 3 (kindOf e) b) c d h;
+        asks = told (ltb-false 4 (kindOf e) b) c d h;
       })))))))
     where
       Fit : Effect → Type 0

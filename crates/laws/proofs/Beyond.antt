@@ -25,7 +25,7 @@ use Rattle.laws.specs.Kept.{InRange, Kept}
 use Rattle.laws.specs.Schedules.{applied, Reached}
 use Rattle.laws.specs.Beyond.{Bare, Agree, Alike, Alike-after}
 use Rattle.laws.proofs.Entries.{taskNo, by-entry}
-use Rattle.laws.proofs.Rows.{Moves, l1, l2, l3-passed, l3-turned, l4, l5, s1, s2-swapped, s2-missed, s3, s4-took, s4-shared, s5, s6-took, s6-busy, s7, r1, moves}
+use Rattle.laws.proofs.Rows.{Moves, l1, l2, l3-passed, l3-turned, l4, l5, s1, s2-swapped, s2-missed, s3, s4-took, s4-shared, s5, s6-took, s6-busy, s7, r1, v1-good, v1-gone, moves}
 use Rattle.laws.proofs.Table.{entry-keeps}
 use Rattle.laws.proofs.Start.{Sizes, by-setup, setup-kept}
 use Rattle.laws.proofs.Reached.{scheduled}
@@ -74,6 +74,8 @@ row-inside n k t s r (s6-took h) = r .cursor
 row-inside n k t s r (s6-busy h) = tt
 row-inside n k t s r (s7 h) = r .held
 row-inside n k t s r (r1 h) = r .held
+row-inside n k t s r (v1-good h) = tt
+row-inside n k t s r (v1-gone h) = tt
 
 written-bare : (m : Machine) (q : TaskNo) (t : Task) (w : Write) → Bare m → q .0 < m .p → Inside (m .n) (m .k) w → Bare (written m q t w)
 written-bare m q t w B hq hw =
@@ -107,6 +109,7 @@ entry-bare m e K B =
     by-entry m e (λ a. Bare (a .machine)) (λ i r w. B)
     (λ a h. written-bare m (taskNo e) _ Nothing B (a .task) tt)
     (λ a h. written-bare m (taskNo e) _ Nothing B (a .task) tt)
+    (λ a. written-bare m (taskNo e) _ Nothing B (a .task) tt)
     (λ a. written-bare m (taskNo e) _ Nothing B (a .task) tt)
     (λ d s. written-bare m (taskNo e) (d .task) (d .write) B (s .task)
     (row-inside (m .n) (m .k) (taskOf m e) (seenOf m (taskOf m e)) (K .sound .each (getD e 2 0) (s .task)) (moves (taskOf m e) (seenOf m (taskOf m e)) d (s .does))))
@@ -195,10 +198,10 @@ module _ (m : Machine) (cs vs ns : List ℕ) (ts : List Task) (C : Agree 0 (m .n
     task-range q h =
         let t = getD (m .tasks) q noTask in
         let all = both (tablesOk (m .n) (m .p) (m .k) (m .cells) (m .counts)) (every (taskOkIn (m .tasks) (m .n) (m .k)) (m .p)) inside .1 in
-        let a = both (leb (t .phase) 14 && ltb (t .cell .0) (m .n) && ltb (t .held .0) (m .k) && ltb (t .own .0) (m .k)) (ltb (t .cursor .0) (m .k)) (every-at (taskOkIn (m .tasks) (m .n) (m .k)) (m .p) q all h) in
-        let b = both (leb (t .phase) 14 && ltb (t .cell .0) (m .n) && ltb (t .held .0) (m .k)) (ltb (t .own .0) (m .k)) (a .0) in
-        let c = both (leb (t .phase) 14 && ltb (t .cell .0) (m .n)) (ltb (t .held .0) (m .k)) (b .0) in
-        let d = both (leb (t .phase) 14) (ltb (t .cell .0) (m .n)) (c .0) in
+        let a = both (leb (t .phase) 15 && ltb (t .cell .0) (m .n) && ltb (t .held .0) (m .k) && ltb (t .own .0) (m .k)) (ltb (t .cursor .0) (m .k)) (every-at (taskOkIn (m .tasks) (m .n) (m .k)) (m .p) q all h) in
+        let b = both (leb (t .phase) 15 && ltb (t .cell .0) (m .n) && ltb (t .held .0) (m .k)) (ltb (t .own .0) (m .k)) (a .0) in
+        let c = both (leb (t .phase) 15 && ltb (t .cell .0) (m .n)) (ltb (t .held .0) (m .k)) (b .0) in
+        let d = both (leb (t .phase) 15) (ltb (t .cell .0) (m .n)) (c .0) in
         record { phase = leb-true _ _ (d .0); cell = ltb-true _ _ (d .1); held = ltb-true _ _ (c .1); own = ltb-true _ _ (b .1); cursor = ltb-true _ _ (a .1) }
 
     seen-same : (t : Task) → InRange (m .n) (m .k) t → seenOf m t ≡ seenOf m′ t

@@ -21,11 +21,11 @@ use Rattle.cells.specs.Machine.{seenOf, cellsAfter}
 use Rattle.cells.specs.Apply.{applyOf}
 use Rattle.cells.specs.Setup.{freshOf, setupOf}
 use Rattle.runs.specs.Counts.{accepted, kindOf, taskOf, loadsAt, stepsAt, turnedAt, swapsAt}
-use Rattle.laws.specs.Types.{Task, Call, Load, Store, Release, Moved, Nothing, Deed, Machine, Applied, Ready}
+use Rattle.laws.specs.Types.{Task, Call, Load, Store, Release, Validate, Moved, Nothing, Deed, Machine, Applied, Ready}
 use Rattle.laws.specs.Schedules.{applied, over}
 use Rattle.laws.proofs.Entries.{Asks, begunBy, steppedBy, by-entry}
 use Rattle.laws.proofs.Start.{by-setup}
-use Rattle.laws.proofs.Rows.{Moves, l1, l2, l3-passed, l3-turned, l4, l5, s1, s2-swapped, s2-missed, s3, s4-took, s4-shared, s5, s6-took, s6-busy, s7, r1, moves}
+use Rattle.laws.proofs.Rows.{Moves, l1, l2, l3-passed, l3-turned, l4, l5, s1, s2-swapped, s2-missed, s3, s4-took, s4-shared, s5, s6-took, s6-busy, s7, r1, v1-good, v1-gone, moves}
 
 module _ (on : ℕ → Bool) where
   -- the steps that a load still has to make, a check that turns back not counted
@@ -117,12 +117,14 @@ module _ (on : ℕ → Bool) where
     row f d k q (s6-busy c) = quiet 0 f d k q refl (omega arith)
     row f d k q (s7 c) = quiet 0 f d k q refl (omega arith)
     row f d k q (r1 c) = quiet 0 f d k q refl (omega arith)
+    row f d k q (v1-good c) = quiet 0 f d k q refl (omega arith)
+    row f d k q (v1-gone c) = quiet 0 f d k q refl (omega arith)
 
   -- every entry pays, and leaves P and the table's length
   entry-pays : (m : Machine) (e : List ℕ) → m .p ≤ length (m .tasks) → Pays m e (applyOf m e)
   entry-pays m e h =
       by-entry m e (Pays m e) (λ i r w. omega arith) (λ a l. begun 1 0 (Load (cellNo (getD e 4 0))) a (omega arith))
-      (λ a l. begun 2 6 (Store (wordAt e 6)) a (omega arith)) (λ a. begun 3 6 Release a (omega arith))
+      (λ a l. begun 2 6 (Store (wordAt e 6)) a (omega arith)) (λ a. begun 3 6 Release a (omega arith)) (λ a. begun 4 6 Validate a (omega arith))
       (λ d s. row m e h (s .task) (taskOf m e .phase) d (s .kind) refl (moves (taskOf m e) (seenOf m (taskOf m e)) d (s .does)))
     where
       begun : (κ f : ℕ) (c : Call) → Asks m e κ f → Settles (m .cells) κ (onward (taskOf m e) f) (begunOf (taskOf m e) c) → Pays m e (begunBy m e c)
@@ -131,7 +133,7 @@ module _ (on : ℕ → Bool) where
   stays : (m : Machine) (e : List ℕ) → (applyOf m e .machine .p ≡ m .p) × (length (applyOf m e .machine .tasks) ≡ length (m .tasks))
   stays m e =
       by-entry m e (λ a. (a .machine .p ≡ m .p) × (length (a .machine .tasks) ≡ length (m .tasks))) (λ i r w. (refl, refl))
-      (λ a l. (refl, simp length-set)) (λ a l. (refl, simp length-set)) (λ a. (refl, simp length-set)) (λ d s. (refl, simp length-set))
+      (λ a l. (refl, simp length-set)) (λ a l. (refl, simp length-set)) (λ a. (refl, simp length-set)) (λ a. (refl, simp length-set)) (λ d s. (refl, simp length-set))
 
   -- and so does every schedule
   pub run-pays : (es : List (List ℕ)) (m : Machine) → m .p ≤ length (m .tasks)

@@ -24,13 +24,13 @@ use Rattle.cells.specs.Apply.{applyOf}
 use Rattle.cells.specs.Setup.{freshOf}
 use Rattle.runs.specs.Counts.{taskOf}
 use Rattle.runs.specs.Run.{entriesOf}
-use Rattle.laws.specs.Types.{Task, Load, Store, Release, Deed, Write, Nothing, Machine}
+use Rattle.laws.specs.Types.{Task, Load, Store, Release, Validate, Deed, Write, Nothing, Machine}
 use Rattle.laws.specs.Meaning.{points, owns, used}
 use Rattle.laws.specs.Kept.{InRange, Kept}
 use Rattle.laws.specs.Schedules.{applied, tried, Reached, set-up, entered, ran}
 use Rattle.laws.proofs.Phases.{phase-gives, either}
 use Rattle.laws.proofs.Entries.{taskNo, by-entry}
-use Rattle.laws.proofs.Rows.{Moves, l1, l2, l3-passed, l3-turned, l4, l5, s1, s2-swapped, s2-missed, s3, s4-took, s4-shared, s5, s6-took, s6-busy, s7, r1, moves}
+use Rattle.laws.proofs.Rows.{Moves, l1, l2, l3-passed, l3-turned, l4, l5, s1, s2-swapped, s2-missed, s3, s4-took, s4-shared, s5, s6-took, s6-busy, s7, r1, v1-good, v1-gone, moves}
 use Rattle.laws.proofs.Keeps.{task, in-list, put-here, in-cells}
 use Rattle.laws.proofs.Table.{entry-keeps}
 use Rattle.laws.proofs.Start.{by-setup}
@@ -40,7 +40,7 @@ use Rattle.laws.proofs.Room.{weighs, takes-up, two, per-node, in-use, s
 
 -- the phases of a task whose m is the node that it read
 abbrev has-read : ℕ → Bool
-has-read f = within 2 8 f || within 13 14 f
+has-read f = within 2 8 f || within 13 15 f
 
 -- the cell is still at m
 abbrev Current : List ℕ → Task → Type 0
@@ -78,6 +78,8 @@ module _ (m : Machine) (K : Kept m) (e : List ℕ) (hp : getD e 2 0 < m .p) wher
   row f d q (s6-busy c) = carried (d .task) (d .write) refl (λ h k. absurd k)
   row f d q (s7 c) = carried (d .task) (d .write) refl (λ h k. absurd k)
   row f d q (r1 c) = carried (d .task) (d .write) refl (λ h k. absurd k)
+  row f d q (v1-good c) = carried (d .task) (d .write) refl (λ h k. h (rw q tt))
+  row f d q (v1-gone c) = carried (d .task) (d .write) refl (λ h k. h (rw q tt))
 
 entry-some : (m : Machine) (e : List ℕ) → Kept m → Some m → Some (applyOf m e .machine)
 entry-some m e K =
@@ -86,6 +88,7 @@ entry-some m e K =
     (λ a l. carried m K e (a .task) (begunOf t (Load (cellNo (getD e 4 0)))) Nothing refl (λ h k. absurd k))
     (λ a l. carried m K e (a .task) (begunOf t (Store (wordAt e 6))) Nothing refl (λ h k. h (rw (a .phase) tt)))
     (λ a. carried m K e (a .task) (begunOf t Release) Nothing refl (λ h k. h (rw (a .phase) tt)))
+    (λ a. carried m K e (a .task) (begunOf t Validate) Nothing refl (λ h k. h (rw (a .phase) tt)))
     (λ d s. row m K e (s .task) (t .phase) d refl (moves t (seenOf m t) d (s .does)))
 
 schedule-some : (es : List (List ℕ)) (m : Machine) → Kept m → Some m → Some (applied m es)

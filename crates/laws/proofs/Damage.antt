@@ -18,7 +18,7 @@ use Rattle.cells.specs.Machine.{seenOf, inRange}
 use Rattle.cells.specs.Apply.{applyOf}
 use Rattle.runs.specs.Counts.{accepted}
 use Rattle.runs.specs.Run.{entriesOf, reportOf, counted, ranFrom, ranOf}
-use Rattle.laws.specs.Types.{Answer, Replied, Refused, Reply, Moved, Loaded, Took, Lost, Released, Sizes, NoTask, NoKind, NoCell, NotZero, NotNow, NoStep, OtherCell, WrongMark, TooShort, NoRoom, Damaged, TooLong, Task, Effect, Does, Refuses, Machine, Report, Ran}
+use Rattle.laws.specs.Types.{Answer, Replied, Refused, Reply, Moved, Loaded, Took, Lost, Released, Good, Gone, Sizes, NoTask, NoKind, NoCell, NotZero, NotNow, NoStep, OtherCell, WrongMark, TooShort, NoRoom, Damaged, TooLong, Task, Effect, Does, Refuses, Machine, Report, Ran}
 use Rattle.laws.specs.Kept.{Kept}
 use Rattle.laws.proofs.Phases.{by-phase, by-test}
 use Rattle.laws.proofs.Entries.{Damage, by-range, by-step, by-entry}
@@ -79,12 +79,13 @@ module _ (m : Machine) (K : Kept m) where
         (λ w. lowers-well 11 (onward (probing t (after (m .k) (t .held))) 12) Moved w tt)
         (λ w. by-test (Steady 12) (eqb (getD (m .counts) (t .cursor .0) 0) 0) _ _ (λ y. tt) (λ y. tt))
         (λ w. lowers-well 13 (onward t 0) Lost w tt) (λ w. lowers-well 14 (onward t 0) Released w tt)
+        (λ w. by-test (Steady 15) (eqb (t .held .0) (getD (m .cells) (t .cell .0) 0)) _ _ (λ y. tt) (λ y. tt))
         (t .phase) (K .sound .each q hq .phase) refl
 
   -- no entry is answered with 22, neither by the ranges nor by the step
   pub entry-undamaged : (e : List ℕ) → applyOf m e .answer ≢ Refused Damaged
   entry-undamaged e = by-entry m e (λ a. a .answer ≢ Refused Damaged) (λ i r w q. neither (w (cc)))
-      (λ a h. clash Moved) (λ a h. clash Moved) (λ a. clash Moved) (λ d s. clash (d .reply))
+      (λ a h. clash Moved) (λ a h. clash Moved) (λ a. clash Moved) (λ a. clash Moved) (λ d s. clash (d .reply))
     where
       clash : (r : Reply) → Replied r ≢ Refused Damaged
       clash r q = let z : _≡_ {A = ℕ} 0 1 = cc in omega arith
@@ -102,6 +103,8 @@ number-22 (Replied (Loaded v)) ne = omega arith
 number-22 (Replied Took) ne = omega arith
 number-22 (Replied Lost) ne = omega arith
 number-22 (Replied Released) ne = omega arith
+number-22 (Replied Good) ne = omega arith
+number-22 (Replied Gone) ne = omega arith
 number-22 (Refused Sizes) ne = omega arith
 number-22 (Refused NoTask) ne = omega arith
 number-22 (Refused NoKind) ne = omega arith

@@ -63,7 +63,7 @@ pub answer-ends : (m : Machine) (e : List ℕ) (x : Result) → finishes (applyO
 unfolding eventsOf
 answer-ends m e x =
     by-entry m e (λ a. finishes (a .answer) ≡ x ∷ [] → (us : List Event) × (eventsIn actsFrom (a .answer) m (a .machine) e ≡ us ++ ends (getD e 2 0) x ∷ []))
-    (λ i r k. none) (λ k h. none) (λ k h. none) (λ k. none)
+    (λ i r k. none) (λ k h. none) (λ k h. none) (λ k. none) (λ k. none)
     (λ d s q. (cond (actsFrom (taskOf m e .phase) (taskOf (steppedBy m e d .machine) e .phase)) (acts (getD e 2 0) ∷ []) [], rw (s .kind, q)))
   where
     none : {A : Type 0} → _≡_ {A = List Result} [] (x ∷ []) → A

@@ -14,14 +14,14 @@ use Rattle.answers.specs.Numbers.{refusalNumber}
 use Rattle.tasks.specs.Records.{cellNo, noTask}
 use Rattle.steps.specs.Table.{effectOf}
 use Rattle.entries.specs.Entry.{entryOf, nonzero, outside}
-use Rattle.entries.specs.Order.{loadOf, storeOf, releaseOf, callOf, orderOf}
+use Rattle.entries.specs.Order.{loadOf, storeOf, linkedOf, callOf, orderOf}
 use Rattle.tables.specs.Tables.{taskIn}
 use Rattle.cells.specs.Machine.{seenOf, refusedBy, carriedOf, inRange}
 use Rattle.cells.specs.Apply.{judgedOf, decisionOf, carriedBy, applyOf}
 use Rattle.runs.specs.Counts.{accepted, kindOf, taskOf}
-use Rattle.laws.specs.Types.{Refusal, NoTask, NoKind, NoCell, NotZero, NotNow, OtherCell, WrongMark, TooShort, Damaged, Task, Load, Store, Release, Deed, Effect, Does, Refuses, Entry, EntryRead, Machine, Applied}
+use Rattle.laws.specs.Types.{Refusal, NoTask, NoKind, NoCell, NotZero, NotNow, OtherCell, WrongMark, TooShort, Damaged, Task, Load, Store, Release, Validate, Deed, Effect, Does, Refuses, Entry, EntryRead, Machine, Applied}
 use Rattle.laws.specs.Bytes.{go as goes}
-pub use Rattle.laws.specs.Outcomes.{taskNo, stepOf, Asks, Steps, Damage, by-range, by-step, begunBy, steppedBy, Outcome, refused, loads, stores, releases, steps}
+pub use Rattle.laws.specs.Outcomes.{taskNo, stepOf, Asks, Steps, Damage, by-range, by-step, begunBy, steppedBy, Outcome, refused, loads, stores, releases, validates, steps}
 use Rattle.laws.proofs.Phases.{by-test}
 
 module _ (m : Machine) (e : List ℕ) where
@@ -54,9 +54,9 @@ module _ (m : Machine) (e : List ℕ) where
   step k h (Refuses r) q = refused (getD e 2 0) r (λ w. by-step h (q ∙ ap Refuses w))
 
   -- 16 or 17, 18, 22 (the step)
-  call : (s : ℕ) → getD e 2 0 < m .p → kind ≤ 3 → outside (m .n) (entry s) ≡ false → Out (callOf (entry s) t (seenOf m t))
-  unfolding callOf loadOf storeOf releaseOf carriedOf outside
-  call s hp h3 hn =
+  call : (s : ℕ) → getD e 2 0 < m .p → kind ≤ 4 → outside (m .n) (entry s) ≡ false → Out (callOf (entry s) t (seenOf m t))
+  unfolding callOf loadOf storeOf linkedOf carriedOf outside
+  call s hp h4 hn =
       by-test Out (eqb kind 0) _ _ (λ k. step (eqb-true kind 0 k) hp (stepOf m e) refl)
       (λ k0. by-test Out (eqb kind 1) _ _
       (λ k. by-test Out (not (eqb (t .phase) 0)) _ _ (λ w. no NotNow (omega arith))
@@ -65,12 +65,14 @@ module _ (m : Machine) (e : List ℕ) where
       (λ k. by-test Out (not (eqb (t .phase) 6)) _ _ (λ w. no NotNow (omega arith))
       (λ w. by-test Out (not (eqb cell (t .cell .0))) _ _ (λ x. no OtherCell (omega arith))
       (λ x. stores (asks 2 6 k (not-false _ w)) (eqb-true _ _ (not-false _ x)))))
-      (λ k2. by-test Out (not (eqb (t .phase) 6)) _ _ (λ w. no NotNow (omega arith))
-      (λ w. releases (record {
-        kind = omega (arith, eqb-false kind 0 k0, eqb-false kind 1 k1, eqb-false kind 2 k2);
+      (λ k2. by-test Out (eqb kind 3) _ _
+      (λ k. by-test Out (not (eqb (t .phase) 6)) _ _ (λ w. no NotNow (omega arith)) (λ w. releases (asks 3 6 k (not-false _ w))))
+      (λ k3. by-test Out (not (eqb (t .phase) 6)) _ _ (λ w. no NotNow (omega arith))
+      (λ w. validates (record {
+        kind = omega (arith, eqb-false kind 0 k0, eqb-false kind 1 k1, eqb-false kind 2 k2, eqb-false kind 3 k3);
         task = hp;
         phase = eqb-true _ _ (not-false _ w);
-      })))))
+      }))))))
     where
       asks : (k f : ℕ) → eqb kind k ≡ true → eqb (t .phase) f ≡ true → Asks m e k f
       asks k f a b = record { kind = eqb-true kind k a; task = hp; phase = eqb-true (t .phase) f b }
@@ -86,32 +88,34 @@ module _ (m : Machine) (e : List ℕ) where
       (λ q. by-test Read (ltb (length e) 10) _ _ (λ w. other 0 TooShort (omega arith))
       (λ w. by-test Read (not (marked entryMark e)) _ _ (λ x. other 0 WrongMark (omega arith))
       (λ x. by-test Out (leb (m .p) (getD e 2 0)) _ _ (λ a. no NoTask (omega arith))
-      (λ a. by-test Out (ltb 3 kind) _ _ (λ b. no NoKind (omega arith))
+      (λ a. by-test Out (ltb 4 kind) _ _ (λ b. no NoKind (omega arith))
       (λ b. by-test Out (nonzero (entry (getD e 5 0))) _ _ (λ c. no NotZero (omega arith))
       (λ c. by-test Out (outside (m .n) (entry (getD e 5 0))) _ _ (λ d. no NoCell (omega arith))
-      (λ d. call (getD e 5 0) (leb-false _ _ a) (ltb-false 3 kind b) d)))))))
+      (λ d. call (getD e 5 0) (leb-false _ _ a) (ltb-false 4 kind b) d)))))))
 
 -- what holds of each outcome holds of the entry
 pub by-entry : (m : Machine) (e : List ℕ) (R : Applied → Type 0) → ((i : ℕ) (r : Refusal) → (r ≡ Damaged → Damage m e) → R (refusedBy m i r))
     → (Asks m e 1 0 → getD e 4 0 < m .n → R (begunBy m e (Load (cellNo (getD e 4 0)))))
     → (Asks m e 2 6 → getD e 4 0 ≡ taskOf m e .cell .0 → R (begunBy m e (Store (wordAt e 6))))
     → (Asks m e 3 6 → R (begunBy m e Release))
+    → (Asks m e 4 6 → R (begunBy m e Validate))
     → ((d : Deed) → Steps m e d → R (steppedBy m e d))
     → R (applyOf m e)
-by-entry m e R refusal load store release step = go (outcome m e)
+by-entry m e R refusal load store release validate step = go (outcome m e)
   where
     go : {a : Applied} → Outcome m e a → R a
     go (refused i r w) = refusal i r w
     go (loads a h) = load a h
     go (stores a h) = store a h
     go (releases a) = release a
+    go (validates a) = validate a
     go (steps d s) = step d s
 
 -- a refused entry leaves the machine, whatever the record
 pub refused-leaves : (m : Machine) (e : List ℕ) → accepted (applyOf m e .answer) ≡ false → applyOf m e .machine ≡ m
 refused-leaves m e =
     by-entry m e (λ a. accepted (a .answer) ≡ false → a .machine ≡ m) (λ i r w h. refl) (λ a l h. absurd (true≢false h)) (λ a l h. absurd (true≢false h))
-    (λ a h. absurd (true≢false h)) (λ d s h. absurd (true≢false h))
+    (λ a h. absurd (true≢false h)) (λ a h. absurd (true≢false h)) (λ d s h. absurd (true≢false h))
 
 -- a task's go, in a record that is in range, is its step
 pub go-steps : (m : Machine) (p : ℕ) → inRange m ≡ true → p < m .p

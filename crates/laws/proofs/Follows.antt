@@ -17,7 +17,7 @@ use Rattle.tasks.specs.Phases.{live, passed}
 use Rattle.steps.specs.Table.{effectOf}
 use Rattle.cells.specs.Machine.{seenOf, written}
 use Rattle.cells.specs.Apply.{applyOf}
-use Rattle.figure1.specs.Figure1.{put, Call, load, store, release, value, took, lost, released, nobody}
+use Rattle.figure1.specs.Figure1.{put, Call, load, store, release, validate, value, took, lost, released, good, gone, nobody}
 use Rattle.figure1.specs.Histories.{Status, quiet, asked, acted, State, Event, begins, acts, ends, act, afterAll, Follows}
 use Rattle.figure1.proofs.Put.{put-same, put-other, put-in, set-put}
 use Rattle.laws.specs.Types.{TaskNo, Task, Nothing, Point, Value, Deed, Does, Machine}
@@ -26,7 +26,7 @@ use Rattle.laws.specs.Kept.{Ready, InRange, Kept}
 use Rattle.laws.specs.Acts.{inSet, linkedAt, standing, Matches, actsFrom, ending, each, eventsIn, eventsOf}
 use Rattle.laws.proofs.Phases.{either, phase-gives}
 use Rattle.laws.proofs.Entries.{taskNo, by-entry}
-use Rattle.laws.proofs.Rows.{Moves, l1, l2, l3-passed, l3-turned, l4, l5, s1, s2-swapped, s2-missed, s3, s4-took, s4-shared, s5, s6-took, s6-busy, s7, r1, moves}
+use Rattle.laws.proofs.Rows.{Moves, l1, l2, l3-passed, l3-turned, l4, l5, s1, s2-swapped, s2-missed, s3, s4-took, s4-shared, s5, s6-took, s6-busy, s7, r1, v1-good, v1-gone, moves}
 use Rattle.laws.proofs.Keeps.{task, in-list, put-here, in-cells, part}
 
 -- only a load that has passed its check looks at a value
@@ -150,13 +150,13 @@ module _ (m : Machine) (K : Kept m) (p : TaskNo) (hp : p .0 < m .p) (a : State) 
       away : (q : ℕ) → q < m .p → T (passed (task m q .phase)) → task m q .held .0 ≢ o
       away q hq k w = let h : T (live 7) → o ≢ task m q .held .0 = rw e at (K .held q (p .0) hq hp k) in h tt (sym w)
 
-  -- p is in S[x] or not, before its swap
-  member-is : (b : Bool) → t ≡ at 8 → eqb (node x) (t .held .0) ≡ b → a .cells .member x (p .0) ≡ b
-  member-is b e q = sym (link 8 e x (in-t .cell)) ∙ rw (eq-eqb x x refl, q)
+  -- p, whose check has passed, is in S[x] or not
+  member-is : (f : ℕ) (b : Bool) → inSet f ≡ true → t ≡ at f → eqb (node x) (t .held .0) ≡ b → a .cells .member x (p .0) ≡ b
+  member-is f b s e q = sym (link f e x (in-t .cell)) ∙ rw (s, eq-eqb x x refl, q)
 
   -- a store at its swap
   swap-acts : t ≡ at 8 → t .held .0 ≡ node x → Matches (written m p (at 9) (Point (t .cell) (t .own))) (act a (p .0) (asked (store x (t .value))))
-  swap-acts e q = rw (member-is true e (eq-eqb (node x) (t .held .0) (sym q))) (record {
+  swap-acts e q = rw (member-is 8 true refl e (eq-eqb (node x) (t .held .0) (sym q))) (record {
     vals = λ y hy. set-put (λ v b. getD (m .values) v 0 ≡ b) (m .cells) x (t .own .0) 0 (a .cells .val) (t .value) (in-cells m K (in-t .cell))
         (let w : Ready (m .values) (at 8) = rw e at (K .written (p .0) hp) in w refl) y (λ n. M .vals y hy);
     sets = λ y q hy hq. set-put (λ v g. linkedAt v y (getD (set (m .tasks) (p .0) (at 9)) q noTask) ≡ g q) (m .cells) x (t .own .0) 0 (a .cells .member) nobody
@@ -178,7 +178,7 @@ module _ (m : Machine) (K : Kept m) (p : TaskNo) (hp : p .0 < m .p) (a : State) 
   })
     where
       out : a .cells .member x (p .0) ≡ false
-      out = member-is false e (ne-eqb (node x) (t .held .0) (λ w. q (sym w)))
+      out = member-is 8 false refl e (ne-eqb (node x) (t .held .0) (λ w. q (sym w)))
 
       off : (y : ℕ) → y < m .n → false ≡ a .cells .member y (p .0)
       off y hy = elim (ℕ-discrete x y) [ yes w ↦ rw w at (sym out) | no w ↦ rw (ne-eqb x y w) at (link 8 e y hy) ]
@@ -195,6 +195,21 @@ module _ (m : Machine) (K : Kept m) (p : TaskNo) (hp : p .0 < m .p) (a : State) 
           (λ n. M .calls q hq ∙ sym (put-other (a .status) (p .0) (acted released) q n));
     },
   )
+
+  -- a validate at its one step, which also ends it: the cells stay, and p's part in S[x] is what the comparison found
+  validate-acts : (e : t ≡ at 15) (b : Bool) → eqb (node x) (t .held .0) ≡ b
+      → Follows a (acts (p .0) ∷ ends (p .0) (cond b good gone) ∷ []) × Matches (turned (at 6) (m .counts)) (afterAll a (acts (p .0) ∷ ends (p .0) (cond b good gone) ∷ []))
+  validate-acts e b q = rw (stand 15 e, member-is 15 b refl e q) (
+    (tt, (put-same (a .status) (p .0) given, tt)),
+    still 15 (at 6) (m .counts) (put now (p .0) quiet) e (λ y. refl) (sym (put-same now (p .0) quiet))
+        (λ q n. put-other now (p .0) quiet q n ∙ put-other (a .status) (p .0) given q n),
+  )
+    where
+      given : Status
+      given = acted (cond b good gone)
+
+      now : ℕ → Status
+      now = put (a .status) (p .0) given
 
   row-fits : {f : ℕ} {d : Deed} → Moves t (seenOf m t) f d → t ≡ at f → Fits f d
   row-fits l1 e = (tt, stutter 1 _ _ e (λ y. refl) refl)
@@ -214,6 +229,8 @@ module _ (m : Machine) (K : Kept m) (p : TaskNo) (hp : p .0 < m .p) (a : State) 
   row-fits (s6-busy q) e = (tt, stutter 12 _ _ e (λ y. refl) refl)
   row-fits (s7 h) e = ((stand 13 e, tt), stands 13 (at 0) _ quiet e (λ y. refl) refl)
   row-fits (r1 h) e = release-acts e _
+  row-fits (v1-good q) e = validate-acts e true (eq-eqb (node x) (t .held .0) (sym q))
+  row-fits (v1-gone q) e = validate-acts e false (ne-eqb (node x) (t .held .0) (λ w. q (sym w)))
 
   pub step-fits : (d : Deed) → effectOf t (seenOf m t) ≡ Does d → Fits (t .phase) d
   step-fits d q = row-fits (moves t (seenOf m t) d q) refl
@@ -233,4 +250,5 @@ entry-fits m e a K M =
     (λ k h. rw (k .kind, k .kind) (begin-fits m K (taskNo e) (k .task) a M 0 (load (getD e 4 0)) _ (k .phase) refl (λ y. refl) refl))
     (λ k h. rw (k .kind, k .kind) (begin-fits m K (taskNo e) (k .task) a M 6 (store (getD e 4 0) (wordAt e 6)) _ (k .phase) refl (λ y. refl) (rw h)))
     (λ k. rw (k .kind, k .kind) (begin-fits m K (taskNo e) (k .task) a M 6 (release (task m (getD e 2 0) .cell .0)) _ (k .phase) refl (λ y. refl) refl))
+    (λ k. rw (k .kind, k .kind) (begin-fits m K (taskNo e) (k .task) a M 6 (validate (task m (getD e 2 0) .cell .0)) _ (k .phase) refl (λ y. refl) refl))
     (λ d s. rw (s .kind, put-here m K (d .task) (s .task)) (step-fits m K (taskNo e) (s .task) a M d (s .does)))

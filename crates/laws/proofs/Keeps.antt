@@ -28,7 +28,7 @@ task m q = getD (m .tasks) q noTask
 pub owned : (t : Task) (i : ℕ) → T (live (t .phase)) → t .own .0 ≡ i → 1 ≤ claims i t
 owned t i l r = rw (T→true (live (t .phase)) l) (omega (arith, bit-eq (t .own .0) i r))
 
-pub kept : (t : Task) (i : ℕ) → t .phase ≤ 14 → T (passed (t .phase)) → t .held .0 ≡ i → 1 ≤ keeps i t
+pub kept : (t : Task) (i : ℕ) → t .phase ≤ 15 → T (passed (t .phase)) → t .held .0 ≡ i → 1 ≤ keeps i t
 kept t i h k r = rw (T→true (holds (t .phase)) (phase-gives passed holds tt (t .phase) h k)) (omega (arith, bit-eq (t .held .0) i r))
 
 module _ (m : Machine) (K : Kept m) where

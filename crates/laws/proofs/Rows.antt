@@ -10,7 +10,7 @@ use Rattle.tasks.specs.Records.{onward, probing}
 use Rattle.steps.specs.Table.{after, raisedOf, loweredOf, counting, rows, beyond, effectOf}
 use Rattle.steps.proofs.Rows.{effect-beyond}
 use Rattle.laws.specs.Types.{Reply, Moved, Lost, Released, NodeNo, Task, Seen, Count, Counted, To, Broken, Deed, Effect, Does, Refuses}
-pub use Rattle.laws.specs.Moves.{deed, raised, lowered, Moves, l1, l2, l3-passed, l3-turned, l4, l5, s1, s2-swapped, s2-missed, s3, s4-took, s4-shared, s5, s6-took, s6-busy, s7, r1}
+pub use Rattle.laws.specs.Moves.{deed, raised, lowered, Moves, l1, l2, l3-passed, l3-turned, l4, l5, s1, s2-swapped, s2-missed, s3, s4-took, s4-shared, s5, s6-took, s6-busy, s7, r1, v1-good, v1-gone}
 use Rattle.laws.proofs.Phases.{by-phase, by-test}
 
 -- a step that counts is refused, or the count is as it must be
@@ -32,7 +32,7 @@ module _ (t : Task) (s : Seen) where
 
   reads : Reads (t .phase) (effectOf t s)
   unfolding effectOf rows
-  reads = elim (decLe (t .phase) 14) [
+  reads = elim (decLe (t .phase) 15) [
     | yes h ↦ by-phase (λ n. Reads n (getD rows n beyond t s))
         tt l1 (by-raised (λ c. Reads 2 (counting c (onward t 3) Moved)) (s .tasks) (t .held) (s .«held_count») tt l2)
         (by-test (Reads 3) (eqb (t .held .0) (s .here .0)) _ _ (λ q. l3-passed (eqb-true _ _ q)) (λ q. l3-turned (eqb-false _ _ q)))
@@ -43,6 +43,7 @@ module _ (t : Task) (s : Seen) where
         (lowering-reads 11 (onward (probing t (after (s .nodes) (t .held))) 12) Moved s5)
         (by-test (Reads 12) (eqb (s .«cursor_count») 0) _ _ (λ q. s6-took (eqb-true _ _ q)) (λ q. s6-busy (eqb-false _ _ q)))
         (lowering-reads 13 (onward t 0) Lost s7) (lowering-reads 14 (onward t 0) Released r1)
+        (by-test (Reads 15) (eqb (t .held .0) (s .here .0)) _ _ (λ q. v1-good (eqb-true _ _ q)) (λ q. v1-gone (eqb-false _ _ q)))
         (t .phase) h
     | no h ↦ rw (effect-beyond t s (omega arith)) tt
   ]

@@ -17,12 +17,12 @@ use Rattle.tasks.specs.Records.{taskOk}
 use Rattle.steps.specs.Table.{after, raisedOf, loweredOf, rows, effectOf}
 use Rattle.tables.specs.Tables.{sizesOk}
 use Rattle.entries.specs.Entry.{entryOf, nonzero, outside}
-use Rattle.entries.specs.Order.{loadOf, storeOf, releaseOf, callOf, orderOf}
+use Rattle.entries.specs.Order.{loadOf, storeOf, linkedOf, callOf, orderOf}
 use Rattle.cells.specs.Machine.{carriedOf, inRange}
 use Rattle.cells.specs.Apply.{judgedOf, decisionOf, applyOf}
 use Rattle.cells.specs.Setup.{freshOf, setupOf}
 use Rattle.runs.specs.Counts.{anywhere, loadsAt, stepsAt, swapsAt}
-use Rattle.laws.specs.Types.{Answer, Replied, Refused, Moved, Loaded, Took, Lost, Released, Machine, Ready}
+use Rattle.laws.specs.Types.{Answer, Replied, Refused, Moved, Loaded, Took, Lost, Released, Good, Gone, Machine, Ready}
 use Rattle.laws.specs.Meaning.{used, free}
 use Rattle.laws.specs.Schedules.{applied, over, Reached, set-up, entered}
 use Rattle.laws.specs.Bytes.{go}
@@ -40,6 +40,8 @@ unfinished (Replied (Loaded v)) q f = omega arith
 unfinished (Replied Took) q f = omega arith
 unfinished (Replied Lost) q f = omega arith
 unfinished (Replied Released) q f = omega arith
+unfinished (Replied Good) q f = omega arith
+unfinished (Replied Gone) q f = omega arith
 unfinished (Refused r) q f = f
 
 late : (n : ℕ) (m : Machine) (p : ℕ) → only-moves n m p ≡ true → Within n m p → ⊥
@@ -73,7 +75,7 @@ record Computed : Type 0 where
   busy : used (applied fresh (case10 ++ gos 8 1)) ≡ 4
 
 computed : Computed
-unfolding total over applied applyOf decisionOf judgedOf orderOf callOf loadOf storeOf releaseOf entryOf nonzero outside marked wordAt carriedOf inRange sizesOk every taskOk effectOf rows after raisedOf loweredOf setupOf freshOf fillTo
+unfolding total over applied applyOf decisionOf judgedOf orderOf callOf loadOf storeOf linkedOf entryOf nonzero outside marked wordAt carriedOf inRange sizesOk every taskOk effectOf rows after raisedOf loweredOf setupOf freshOf fillTo
 computed =
     record { steps = refl; most = refl; loaded = refl; loads = refl; stores = refl; took = refl; count = refl; probing = refl; busy = refl }
 

@@ -29,7 +29,7 @@ use Rattle.laws.proofs.Keeps.{task, put-here, in-counts}
 use Rattle.laws.proofs.Table.{step-keeps}
 use Rattle.laws.proofs.Damage.{in-range, Steady, steady}
 use Rattle.laws.proofs.Room.{used-less, can-lower}
-use Rattle.laws.proofs.Rows.{Moves, l1, l2, l3-passed, l3-turned, l4, l5, s1, s2-swapped, s2-missed, s3, s4-took, s4-shared, s5, s6-took, s6-busy, s7, r1, moves}
+use Rattle.laws.proofs.Rows.{Moves, l1, l2, l3-passed, l3-turned, l4, l5, s1, s2-swapped, s2-missed, s3, s4-took, s4-shared, s5, s6-took, s6-busy, s7, r1, v1-good, v1-gone, moves}
 
 -- a call is running
 abbrev busy : ℕ → Bool
@@ -40,7 +40,7 @@ abbrev due : Machine → Task → ℕ → ℕ
 due m t f =
     let turned = 4 * bit (not (eqb (t .held .0) (getD (m .cells) (t .cell .0) 0))) in
     let all = m .n + 2 * m .p in
-    getD (0 ∷ 4 ∷ (3 + turned) ∷ (2 + turned) ∷ 1 ∷ 5 ∷ 0 ∷ (all + 3) ∷ (all + 2) ∷ (all + 1) ∷ all ∷ (all - bit (ltb 0 (getD (m .counts) (t .held .0) 0 - 1))) ∷ 0 ∷ 1 ∷ 1 ∷ []) f 0
+    getD (0 ∷ 4 ∷ (3 + turned) ∷ (2 + turned) ∷ 1 ∷ 5 ∷ 0 ∷ (all + 3) ∷ (all + 2) ∷ (all + 1) ∷ all ∷ (all - bit (ltb 0 (getD (m .counts) (t .held .0) 0 - 1))) ∷ 0 ∷ 1 ∷ 1 ∷ 1 ∷ []) f 0
 
 -- a free node is fewer than n places on
 abbrev Probes : ℕ → Machine → ℕ → Type 0
@@ -149,6 +149,8 @@ module _ (p : ℕ) where
         let hc = K .sound .each p hp .cursor in inr (refl, tt, rw (after-is (m .k) (t .cursor) (omega arith)) (later n m (t .cursor .0) hc c e))
     row n f d q e (s7 c) K′ now = inl tt
     row n f d q e (r1 c) K′ now = inl tt
+    row n f d q e (v1-good c) K′ now = inl tt
+    row n f d q e (v1-gone c) K′ now = inl tt
 
   solo : (n : ℕ) (m : Machine) → Kept m → p < m .p → T (busy (task m p .phase)) → Enough n m (task m p) (task m p .phase) → Within n m p
   unfolding Within carriedOf
@@ -173,7 +175,7 @@ module _ (p : ℕ) where
     load-solo b =
         let r = by-phase (λ f. T (within 1 5 f) → T (busy f) × Enough 7 m (task m p) f) (λ k. absurd k) (λ k. (tt, omega arith)) (λ k. (tt, omega (arith, turn)))
         (λ k. (tt, omega (arith, turn))) (λ k. (tt, omega arith)) (λ k. (tt, omega arith)) (λ k. absurd k) (λ k. absurd k) (λ k. absurd k) (λ k. absurd k) (λ k. absurd k)
-        (λ k. absurd k) (λ k. absurd k) (λ k. absurd k) (λ k. absurd k) (task m p .phase) (K .sound .each p hp .phase) b in
+        (λ k. absurd k) (λ k. absurd k) (λ k. absurd k) (λ k. absurd k) (λ k. absurd k) (task m p .phase) (K .sound .each p hp .phase) b in
         solo 7 m K hp (r .0) (r .1)
       where
         turn : bit (not (eqb (task m p .held .0) (getD (m .cells) (task m p .cell .0) 0))) ≤ 1
@@ -188,7 +190,7 @@ module _ (p : ℕ) where
         (λ q k. (tt, omega arith)) (λ q k. (tt, omega arith)) (λ q k. (tt, omega (arith, K .sound .a-cell)))
         (λ q k. (tt, omega (arith, K .sound .a-cell, K .sound .a-task, bit-le (ltb 0 (getD (m .counts) (task m p .held .0) 0 - 1)))))
         (λ q k. (tt, found-from m K p hp q (task m p .cursor .0) (all + 3) (K .sound .each p hp .cursor) (omega arith)))
-        (λ q k. (tt, omega arith)) (λ q k. absurd k) (task m p .phase) (K .sound .each p hp .phase) refl b in
+        (λ q k. (tt, omega arith)) (λ q k. absurd k) (λ q k. absurd k) (task m p .phase) (K .sound .each p hp .phase) refl b in
         solo (all + 3) m K hp (r .0) (r .1)
 
     -- so within N + 2P + 4
@@ -198,3 +200,7 @@ module _ (p : ℕ) where
     -- a release ends at its one step
     pub release-solo : task m p .phase ≡ 14 → Within 1 m p
     release-solo q = solo 1 m K hp (rw q tt) (rw q (omega arith))
+
+    -- and so does a validate
+    pub validate-solo : task m p .phase ≡ 15 → Within 1 m p
+    validate-solo q = solo 1 m K hp (rw q tt) (rw q (omega arith))

@@ -20,15 +20,15 @@ use Rattle.tasks.specs.Holders.{keeps}
 use Rattle.steps.specs.Table.{after, effectOf}
 use Rattle.cells.specs.Machine.{seenOf, written}
 use Rattle.cells.specs.Apply.{applyOf}
-use Rattle.laws.specs.Types.{CellNo, NodeNo, TaskNo, Task, Load, Store, Release, Nothing, Point, Count, Value, Deed, Does, Machine}
+use Rattle.laws.specs.Types.{CellNo, NodeNo, TaskNo, Task, Load, Store, Release, Validate, Nothing, Point, Count, Value, Deed, Does, Machine}
 use Rattle.laws.specs.Meaning.{points, claims, pointers}
 use Rattle.laws.specs.Kept.{InRange, Kept}
 use Rattle.laws.proofs.Phases.{implied}
 use Rattle.laws.proofs.Entries.{by-entry, taskNo}
-use Rattle.laws.proofs.Rows.{Moves, l1, l2, l3-passed, l3-turned, l4, l5, s1, s2-swapped, s2-missed, s3, s4-took, s4-shared, s5, s6-took, s6-busy, s7, r1, moves}
+use Rattle.laws.proofs.Rows.{Moves, l1, l2, l3-passed, l3-turned, l4, l5, s1, s2-swapped, s2-missed, s3, s4-took, s4-shared, s5, s6-took, s6-busy, s7, r1, v1-good, v1-gone, moves}
 use Rattle.laws.proofs.Keeps.{task, in-list, in-counts, in-values, in-cells, pointed, own-apart, part, pairs, tame, Calm, Leaves, stepped, calm, alone, lowers, claiming}
 
-in-phase : {n k : ℕ} {t : Task} (f : ℕ) → f ≤ 14 → InRange n k t → InRange n k (onward t f)
+in-phase : {n k : ℕ} {t : Task} (f : ℕ) → f ≤ 15 → InRange n k t → InRange n k (onward t f)
 in-phase f h r = record { phase = h; cell = r .cell; held = r .held; own = r .own; cursor = r .cursor }
 
 module _ (m : Machine) (K : Kept m) (p : TaskNo) (hp : p .0 < m .p) where
@@ -47,7 +47,7 @@ module _ (m : Machine) (K : Kept m) (p : TaskNo) (hp : p .0 < m .p) where
 
   -- going on from phase a to phase b, where the record then claims, holds and owns no more
   abbrev Gently : ℕ → ℕ → Type 0
-  Gently a b = (b ≤ 14) × (b ≢ 8) × ((i : ℕ) → claims i (at b) ≤ claims i (at a)) × T (not (passed b) || passed a) × T (not (live b) || live a)
+  Gently a b = (b ≤ 15) × (b ≢ 8) × ((i : ℕ) → claims i (at b) ≤ claims i (at a)) × T (not (passed b) || passed a) × T (not (live b) || live a)
 
   onward-calm : (a b : ℕ) (e : t ≡ at a) → Gently a b → Calm m K p hp (at a) e (at b)
   onward-calm a b e g = record {
@@ -160,6 +160,8 @@ module _ (m : Machine) (K : Kept m) (p : TaskNo) (hp : p .0 < m .p) where
   row-keeps (s6-busy q) e = alone m K p hp (at 12) e _ (probes 12 e (t .cursor)) (λ i. omega arith)
   row-keeps (s7 h) e = lowers m K p hp (at 13) e (at 0) h (onward-calm 13 0 e (omega arith)) (λ i. omega arith)
   row-keeps (r1 h) e = lowers m K p hp (at 14) e (at 0) h (onward-calm 14 0 e (omega arith)) (λ i. omega arith)
+  row-keeps (v1-good q) e = goes 15 6 e (omega arith) (λ i. omega arith)
+  row-keeps (v1-gone q) e = goes 15 6 e (omega arith) (λ i. omega arith)
 
   pub step-keeps : (d : Deed) → effectOf t (seenOf m t) ≡ Does d → Kept (written m p (d .task) (d .write))
   step-keeps d q = stepped m K p hp t refl (d .task) (d .write) (row-keeps (moves t (seenOf m t) d q) refl)
@@ -189,6 +191,9 @@ module _ (m : Machine) (K : Kept m) (p : TaskNo) (hp : p .0 < m .p) where
   release-keeps : t .phase ≡ 6 → Kept (written m p (begunOf t Release) Nothing)
   release-keeps q = let e = ap (onward t) q in begun 6 (at 14) e (onward-calm 6 14 e (omega arith)) (λ i. omega arith)
 
+  validate-keeps : t .phase ≡ 6 → Kept (written m p (begunOf t Validate) Nothing)
+  validate-keeps q = let e = ap (onward t) q in begun 6 (at 15) e (onward-calm 6 15 e (omega arith)) (λ i. omega arith)
+
 -- one entry, whatever its bytes
 pub entry-keeps : (m : Machine) (e : List ℕ) → Kept m → Kept (applyOf m e .machine)
 entry-keeps m e K =
@@ -196,4 +201,5 @@ entry-keeps m e K =
     (λ a h. load-keeps m K (taskNo e) (a .task) (cellNo (getD e 4 0)) (a .phase) h)
     (λ a h. store-keeps m K (taskNo e) (a .task) (wordAt e 6) (a .phase))
     (λ a. release-keeps m K (taskNo e) (a .task) (a .phase))
+    (λ a. validate-keeps m K (taskNo e) (a .task) (a .phase))
     (λ d s. step-keeps m K (taskNo e) (s .task) d (s .does))

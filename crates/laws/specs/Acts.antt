@@ -11,15 +11,15 @@ use Rattle.tasks.specs.Records.{noTask}
 use Rattle.tasks.specs.Phases.{passed}
 use Rattle.cells.specs.Apply.{applyOf}
 use Rattle.runs.specs.Counts.{kindOf, taskOf}
-use Rattle.figure1.specs.Figure1.{Call, load, store, release, Result, value, took, lost, released}
+use Rattle.figure1.specs.Figure1.{Call, load, store, release, validate, Result, value, took, lost, released, good, gone}
 use Rattle.figure1.specs.Histories.{Status, quiet, asked, acted, State, Event, begins, acts, ends}
-use Rattle.laws.specs.Types.{Answer, Replied, Refused, Reply, Moved, Loaded, Took, Lost, Released, Task, Machine}
+use Rattle.laws.specs.Types.{Answer, Replied, Refused, Reply, Moved, Loaded, Took, Lost, Released, Good, Gone, Task, Machine}
 
 -- the value of cell x is that of the node it points at
 abbrev pub valueOfCell : Machine → ℕ → ℕ
 valueOfCell m x = getD (m .values) (getD (m .cells) x 0) 0
 
--- the phases in which a task is in a set: 4, 6, 7, 8 and 14
+-- the phases in which a task is in a set: 4, 6 to 8, 14 and 15
 abbrev pub inSet : ℕ → Bool
 inSet f = passed f
 
@@ -36,7 +36,8 @@ standing values f t =
     (cond (within 9 12 f) (acted took)
     (cond (eqb f 13) (acted lost)
     (cond (eqb f 14) (asked (release (t .cell .0)))
-    quiet)))))
+    (cond (eqb f 15) (asked (validate (t .cell .0)))
+    quiet))))))
 
 -- the record is in the state that figure 1 is in
 pub record Matches (m : Machine) (a : State) : Type 0 where
@@ -44,17 +45,19 @@ pub record Matches (m : Machine) (a : State) : Type 0 where
   pub sets : (x q : ℕ) → x < m .n → q < m .p → linkedAt (getD (m .cells) x 0) x (getD (m .tasks) q noTask) ≡ a .cells .member x q
   pub calls : (q : ℕ) → q < m .p → standing (m .values) (getD (m .tasks) q noTask .phase) (getD (m .tasks) q noTask) ≡ a .status q
 
--- the call that an accepted entry of kind 1, 2 or 3 begins: a load names its cell, a store its cell and value, a release is of the linked cell
+-- the call that an accepted entry of kind 1 to 4 begins: a load names its cell, a store its cell and value, a release and a validate are of the
+-- linked cell
 abbrev pub beginning : ℕ → List ℕ → Task → List Call
 beginning kind e t =
     cond (eqb kind 1) (load (getD e 4 0) ∷ [])
     (cond (eqb kind 2) (store (getD e 4 0) (wordAt e 6) ∷ [])
-    (cond (eqb kind 3) (release (t .cell .0) ∷ []) []))
+    (cond (eqb kind 3) (release (t .cell .0) ∷ [])
+    (cond (eqb kind 4) (validate (t .cell .0) ∷ []) [])))
 
--- a step from phase f to phase f′ acts: a load at its passing check, which `passes` tells, a store at its swap (S2, took or not), a release at
--- its one step (R1)
+-- a step from phase f to phase f′ acts: a load at its passing check, which `passes` tells, a store at its swap (S2, took or not), a release and
+-- a validate at their one step (R1, V1)
 abbrev pub actsWhere : (ℕ → ℕ → Bool) → ℕ → ℕ → Bool
-actsWhere passes f f′ = passes f f′ || (eqb f 8 || eqb f 14)
+actsWhere passes f f′ = passes f f′ || (eqb f 8 || within 14 15 f)
 
 -- in document 01's table a check passes from L3 to L4
 abbrev pub actsFrom : ℕ → ℕ → Bool
@@ -67,6 +70,8 @@ ending (Loaded v) = value v ∷ []
 ending Took = took ∷ []
 ending Lost = lost ∷ []
 ending Released = released ∷ []
+ending Good = good ∷ []
+ending Gone = gone ∷ []
 
 -- what an answer ends a call with: one result, or none
 abbrev pub finishes : Answer → List Result

@@ -31,3 +31,7 @@ store p x y = entry p 2 x y
 -- kind 3: task p begins a release
 abbrev pub release : ℕ → List ℕ
 release p = entry p 3 0 0
+
+-- kind 4: task p begins a validate
+abbrev pub validate : ℕ → List ℕ
+validate p = entry p 4 0 0

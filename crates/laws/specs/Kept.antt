@@ -34,7 +34,7 @@ Written m = (x : ℕ) → x < m .p → Ready (m .values) (getD (m .tasks) x noTa
 
 -- a task's record is in range for n cells and k nodes
 pub record InRange (n k : ℕ) (t : Task) : Type 0 where
-  pub phase : t .phase ≤ 14
+  pub phase : t .phase ≤ 15
   pub cell : t .cell .0 < n
   pub held : t .held .0 < k
   pub own : t .own .0 < k

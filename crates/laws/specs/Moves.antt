@@ -4,7 +4,7 @@ use mathlib.Core.Path.{_≡_}
 use mathlib.Core.Logic.{_≢_}
 use Rattle.tasks.specs.Records.{onward, holding, owning, probing}
 use Rattle.steps.specs.Table.{after}
-use Rattle.laws.specs.Types.{Reply, Moved, Loaded, Took, Lost, Released, Task, Seen, Write, Nothing, Point, Count, Value, Deed}
+use Rattle.laws.specs.Types.{Reply, Moved, Loaded, Took, Lost, Released, Good, Gone, Task, Seen, Write, Nothing, Point, Count, Value, Deed}
 
 abbrev pub deed : Task → Write → Reply → Deed
 deed t w r = record { task = t; write = w; reply = r }
@@ -35,3 +35,5 @@ pub data Moves (t : Task) (s : Seen) : ℕ → Deed → Type 0 where
   s6-busy : s .«cursor_count» ≢ 0 → Moves t s 12 (deed (onward (probing t (after (s .nodes) (t .cursor))) 12) Nothing Moved)
   s7 : 0 < s .«held_count» → Moves t s 13 (lowered t s (onward t 0) Lost)
   r1 : 0 < s .«held_count» → Moves t s 14 (lowered t s (onward t 0) Released)
+  v1-good : t .held .0 ≡ s .here .0 → Moves t s 15 (deed (onward t 6) Nothing Good)
+  v1-gone : t .held .0 ≢ s .here .0 → Moves t s 15 (deed (onward t 6) Nothing Gone)

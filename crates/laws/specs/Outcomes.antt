@@ -10,7 +10,7 @@ use Rattle.tasks.specs.Calls.{begunOf}
 use Rattle.steps.specs.Table.{effectOf}
 use Rattle.cells.specs.Machine.{seenOf, written, refusedBy, inRange}
 use Rattle.runs.specs.Counts.{kindOf, taskOf}
-use Rattle.laws.specs.Types.{Refusal, Damaged, Replied, Moved, TaskNo, Call, Load, Store, Release, Deed, Effect, Does, Refuses, Nothing, Machine, Applied}
+use Rattle.laws.specs.Types.{Refusal, Damaged, Replied, Moved, TaskNo, Call, Load, Store, Release, Validate, Deed, Effect, Does, Refuses, Nothing, Machine, Applied}
 
 abbrev pub taskNo : List ℕ → TaskNo
 taskNo e = record { 0 = getD e 2 0 }
@@ -42,10 +42,11 @@ begunBy m e c = record { machine = written m (taskNo e) (begunOf (taskOf m e) c)
 abbrev pub steppedBy : Machine → List ℕ → Deed → Applied
 steppedBy m e d = record { machine = written m (taskNo e) (d .task) (d .write); answer = Replied (d .reply); task = getD e 2 0 }
 
--- a refusal leaves the record; a load, a store and a release start a call; a go makes a step
+-- a refusal leaves the record; a load, a store, a release and a validate start a call; a go makes a step
 pub data Outcome (m : Machine) (e : List ℕ) : Applied → Type 0 where
   refused : (i : ℕ) (r : Refusal) → (r ≡ Damaged → Damage m e) → Outcome m e (refusedBy m i r)
   loads : Asks m e 1 0 → getD e 4 0 < m .n → Outcome m e (begunBy m e (Load (cellNo (getD e 4 0))))
   stores : Asks m e 2 6 → getD e 4 0 ≡ taskOf m e .cell .0 → Outcome m e (begunBy m e (Store (wordAt e 6)))
   releases : Asks m e 3 6 → Outcome m e (begunBy m e Release)
+  validates : Asks m e 4 6 → Outcome m e (begunBy m e Validate)
   steps : (d : Deed) → Steps m e d → Outcome m e (steppedBy m e d)

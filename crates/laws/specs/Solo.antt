@@ -4,7 +4,7 @@ use mathlib.Core.Path.{_≡_}
 use mathlib.Core.List.{List}
 use mathlib.Core.Logic.{_⊎_}
 use Rattle.cells.specs.Apply.{applyOf}
-use Rattle.laws.specs.Types.{Answer, Replied, Refused, Moved, Loaded, Took, Lost, Released, Machine}
+use Rattle.laws.specs.Types.{Answer, Replied, Refused, Moved, Loaded, Took, Lost, Released, Good, Gone, Machine}
 use Rattle.laws.specs.Bytes.{go}
 
 -- a reply that ends a call
@@ -14,6 +14,8 @@ Finished (Replied (Loaded v)) = Unit {0}
 Finished (Replied Took) = Unit {0}
 Finished (Replied Lost) = Unit {0}
 Finished (Replied Released) = Unit {0}
+Finished (Replied Good) = Unit {0}
+Finished (Replied Gone) = Unit {0}
 Finished (Refused r) = ⊥
 
 -- task p's first go, or its second, .. or its n-th ends its call, and each before moves it

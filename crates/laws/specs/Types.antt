@@ -4,9 +4,9 @@ pub use Rattle.tasks.specs.declared.NodeNo.{NodeNo}
 pub use Rattle.tasks.specs.declared.TaskNo.{TaskNo}
 pub use Rattle.tasks.specs.declared.Task.{Task}
 pub use Rattle.tasks.specs.declared.Call.{Call}
-pub use Rattle.tasks.specs.declared.Call.the-variants.{Load, Store, Release}
+pub use Rattle.tasks.specs.declared.Call.the-variants.{Load, Store, Release, Validate}
 pub use Rattle.answers.specs.declared.Reply.{Reply}
-pub use Rattle.answers.specs.declared.Reply.the-variants.{Moved, Loaded, Took, Lost, Released}
+pub use Rattle.answers.specs.declared.Reply.the-variants.{Moved, Loaded, Took, Lost, Released, Good, Gone}
 pub use Rattle.answers.specs.declared.Refusal.{Refusal}
 pub use Rattle.answers.specs.declared.Refusal.the-variants.{Sizes, NoTask, NoKind, NoCell, NotZero, NotNow, NoStep, OtherCell, WrongMark, TooShort, NoRoom, Damaged, TooLong}
 pub use Rattle.answers.specs.declared.Answer.{Answer}

@@ -9,7 +9,7 @@ pub effect-at : (t : Task) (s : Seen) (n : ℕ) → t .phase ≡ n → effectOf 
 unfolding effectOf
 effect-at t s n e = rw e refl
 
--- no row is left past 14
-pub effect-beyond : (t : Task) (s : Seen) → 15 ≤ t .phase → effectOf t s ≡ beyond t s
+-- no row is left past 15
+pub effect-beyond : (t : Task) (s : Seen) → 16 ≤ t .phase → effectOf t s ≡ beyond t s
 unfolding effectOf rows
 effect-beyond t s h = rw (List·getD-eq-default rows beyond h)

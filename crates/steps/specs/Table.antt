@@ -6,7 +6,7 @@ use mathlib.Core.List.{List, [], _∷_}
 use lib.Dec.{eqb, ltb}
 use lib.ListN.{getD}
 use Rattle.tasks.specs.Records.{nodeNo, onward, holding, owning, probing}
-use Rattle.steps.specs.Types.{NodeNo, Task, Reply, Moved, Loaded, Took, Lost, Released, NoStep, Damaged, Answer, Replied, Refused, Seen, Write, Nothing, Point, Count, Value, Counted, To, Broken, Effect, Does, Refuses}
+use Rattle.steps.specs.Types.{NodeNo, Task, Reply, Moved, Loaded, Took, Lost, Released, Good, Gone, NoStep, Damaged, Answer, Replied, Refused, Seen, Write, Nothing, Point, Count, Value, Counted, To, Broken, Effect, Does, Refuses}
 
 -- (v + 1) mod k. K is never 0 in a record that is in range; the definition gives 0 there.
 unfoldable pub after : ℕ → NodeNo → NodeNo
@@ -96,12 +96,16 @@ s7 t s = counting (lowering t s) (onward t 0) Lost
 abbrev pub r1 : Row
 r1 t s = counting (lowering t s) (onward t 0) Released
 
--- above 14 there is no phase
+-- 15 V1: compare m with the node of x; good or gone, validate finished and the link as it was; 6
+abbrev pub v1 : Row
+v1 t s = cond (eqb (t .held .0) (s .here .0)) (does (onward t 6) Nothing Good) (does (onward t 6) Nothing Gone)
+
+-- above 15 there is no phase
 abbrev pub beyond : Row
 beyond t s = Refuses Damaged
 
 unfoldable pub rows : List Row
-rows = none ∷ l1 ∷ l2 ∷ l3 ∷ l4 ∷ l5 ∷ none ∷ s1 ∷ s2 ∷ s3 ∷ s4 ∷ s5 ∷ s6 ∷ s7 ∷ r1 ∷ []
+rows = none ∷ l1 ∷ l2 ∷ l3 ∷ l4 ∷ l5 ∷ none ∷ s1 ∷ s2 ∷ s3 ∷ s4 ∷ s5 ∷ s6 ∷ s7 ∷ r1 ∷ v1 ∷ []
 
 -- what a step does is decided by the phase number
 unfoldable pub effectOf : Task → Seen → Effect

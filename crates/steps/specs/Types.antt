@@ -2,7 +2,7 @@
 pub use Rattle.tasks.specs.declared.NodeNo.{NodeNo}
 pub use Rattle.tasks.specs.declared.Task.{Task}
 pub use Rattle.answers.specs.declared.Reply.{Reply}
-pub use Rattle.answers.specs.declared.Reply.the-variants.{Moved, Loaded, Took, Lost, Released}
+pub use Rattle.answers.specs.declared.Reply.the-variants.{Moved, Loaded, Took, Lost, Released, Good, Gone}
 pub use Rattle.answers.specs.declared.Refusal.the-variants.{NoStep, Damaged}
 pub use Rattle.answers.specs.declared.Answer.{Answer}
 pub use Rattle.answers.specs.declared.Answer.the-variants.{Replied, Refused}

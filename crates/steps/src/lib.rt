@@ -7,7 +7,7 @@ use tasks::Task;
 ghost use mathlib.Core.Path.{_≡_};
 ghost use mathlib.Core.Bool.{true};
 ghost use Rattle.tallies.specs.Lists.{within};
-ghost use Rattle.steps.specs.Table.{after, raisedOf, loweredOf, does, counting, s2, s4, s6, effectOf};
+ghost use Rattle.steps.specs.Table.{after, raisedOf, loweredOf, does, counting, s2, s4, s6, v1, effectOf};
 
 // What a step may look at besides its task's record: the node of x, the counts of m and of the cursor's node, the value of m, P and K.
 pub struct Seen {
@@ -189,6 +189,17 @@ fn store_step(t: Task, s: Seen) -> Effect
     }
 }
 
+// V1: like the swap, it compares node numbers, never values; either way the task stays linked.
+fn validate_step(t: Task, s: Seen) -> Effect
+    ensures { λ r. ⌜ r ≡ v1 t s ⌝ }
+{
+    if t.held.0 == s.here.0 {
+        done(t.onward(6), Write::Nothing, Reply::Good)
+    } else {
+        done(t.onward(6), Write::Nothing, Reply::Gone)
+    }
+}
+
 // What the step of a task does, decided by its phase.
 pub fn step(t: Task, s: Seen) -> Effect
     ensures { λ r. ⌜ r ≡ effectOf t s ⌝ }
@@ -200,6 +211,7 @@ pub fn step(t: Task, s: Seen) -> Effect
         6 => Effect::Refuses(Refusal::NoStep),
         7..=13 => store_step(t, s),
         14 => settled(lowered(t.held, s.held_count), t.onward(0), Reply::Released),
+        15 => validate_step(t, s),
         _ => Effect::Refuses(Refusal::Damaged),
     }
 }

@@ -30,6 +30,6 @@ owning t v = record { phase = t .phase; cell = t .cell; value = t .value; held =
 abbrev pub probing : Task → NodeNo → Task
 probing t v = record { phase = t .phase; cell = t .cell; value = t .value; held = t .held; own = t .own; cursor = v }
 
--- phase at most 14; cell below N; m, own and cursor below K, in every phase
+-- phase at most 15; cell below N; m, own and cursor below K, in every phase
 unfoldable pub taskOk : ℕ → ℕ → Task → Bool
-taskOk n k t = leb (t .phase) 14 && ltb (t .cell .0) n && ltb (t .held .0) k && ltb (t .own .0) k && ltb (t .cursor .0) k
+taskOk n k t = leb (t .phase) 15 && ltb (t .cell .0) n && ltb (t .held .0) k && ltb (t .own .0) k && ltb (t .cursor .0) k

@@ -28,6 +28,7 @@ pub enum Call {
     Load(CellNo),
     Store(u32),
     Release,
+    Validate,
 }
 
 // The answer to the holders question; the refusal is number 24.
@@ -83,7 +84,7 @@ impl Task {
     pub fn in_range(self, n: u8, k: u8) -> bool
         ensures { λ r. ⌜ r ≡ taskOk n k self ⌝ }
     {
-        if 14 < self.phase {
+        if 15 < self.phase {
             return false;
         }
         if n <= self.cell.0 {
@@ -116,6 +117,9 @@ pub fn begun(t: Task, c: Call) -> Task
         Call::Release => {
             u.phase = 14;
         }
+        Call::Validate => {
+            u.phase = 15;
+        }
     }
     u
 }
@@ -144,7 +148,7 @@ pub fn holds_one(t: Task, node: NodeNo) -> usize
     if p < 3 {
         return 0;
     }
-    if 14 < p {
+    if 15 < p {
         return 0;
     }
     if p == 12 {

@@ -17,6 +17,9 @@ onward-requires c κs = search needs
 settled-requires : tie.Need-settled-requires
 settled-requires c κs = search needs
 
+validate-step-requires : tie.Need-validate-step-requires
+validate-step-requires c κs = search needs
+
 load-step-requires : tie.Need-load-step-requires
 load-step-requires c κs = within-true 1 5 (c .before .before .args .t .phase) (omega arith) (omega arith)
 
@@ -37,14 +40,18 @@ returns-3 c = let a = c .before .before .before .before .args in
     rw (effect-at (a .t) (a .s) 14 (c .before .before .before .match .keys3), c .settled .ensures, c .before .onward .ensures, c .before .before .lowered .ensures)
 
 returns-4 : tie.Need-returns-4
-returns-4 c = search needs
+unfolding rows
+returns-4 c = let a = c .before .before .args in rw (effect-at (a .t) (a .s) 15 (c .before .match .keys4)) (c .validate-step .ensures)
 
 returns-5 : tie.Need-returns-5
 returns-5 c = search needs
 
 returns-6 : tie.Need-returns-6
-returns-6 c = let a = c .before .before .before .args in
-    let late : 15 ≤ a .t .phase = omega arith in
+returns-6 c = search needs
+
+returns-7 : tie.Need-returns-7
+returns-7 c = let a = c .before .before .before .args in
+    let late : 16 ≤ a .t .phase = omega arith in
     rw (effect-beyond (a .t) (a .s) late)
 
 pub step-spec : {M : Type 1} → statement M
@@ -54,6 +61,7 @@ step-spec =
     lowered-requires
     onward-requires
     settled-requires
+    validate-step-requires
     load-step-requires
     store-step-requires
     returns
@@ -61,4 +69,5 @@ step-spec =
     returns-3
     returns-4
     returns-5
-    returns-6)
+    returns-6
+    returns-7)

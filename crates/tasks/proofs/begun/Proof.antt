@@ -14,6 +14,9 @@ enum-known-c-2 c = search needs
 enum-told : tie.Need-enum-told
 enum-told c = search needs
 
+enum-told-2 : tie.Need-enum-told-2
+enum-told-2 c = search needs
+
 returns : tie.Need-returns
 returns c = sym (ap (begunOf (c .before .before .before .args .t)) (c .before .c .given .1))
 
@@ -23,5 +26,8 @@ returns-2 c = sym (ap (begunOf (c .before .before .before .args .t)) (c .before 
 returns-3 : tie.Need-returns-3
 returns-3 c = sym (ap (begunOf (c .before .before .args .t)) (c .enum-told .given .1))
 
+returns-4 : tie.Need-returns-4
+returns-4 c = sym (ap (begunOf (c .before .before .args .t)) (c .enum-told2 .given .1))
+
 pub begun-spec : {M : Type 1} → statement M
-begun-spec = tie.close (tie.spec enum-known-c enum-known-c-2 enum-told returns returns-2 returns-3)
+begun-spec = tie.close (tie.spec enum-known-c enum-known-c-2 enum-told enum-told-2 returns returns-2 returns-3 returns-4)

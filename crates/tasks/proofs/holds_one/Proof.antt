@@ -11,29 +11,29 @@ use Rattle.tasks.specs.Holders.{keeps}
 use Rattle.tasks.proofs.holds_one.Statement.{statement}
 use Rattle.tasks.proofs.holds_one.Tie as tie
 
--- from 3 to 14, and not 12
-holding : (f : ℕ) → 3 ≤ f → f ≤ 14 → (f ≡ 12 → ⊥) → holds f ≡ true
+-- from 3 to 15, and not 12
+holding : (f : ℕ) → 3 ≤ f → f ≤ 15 → (f ≡ 12 → ⊥) → holds f ≡ true
 holding f a b n = split (leb f 11) refl
   where
     split : (t : Bool) → leb f 11 ≡ t → holds f ≡ true
     split true e = simp (le-leb 3 f a, e)
-    split false e = let h : 13 ≤ f = omega (arith, leb-false f 11 e) in simp (le-leb 3 f a, e, le-leb 13 f h, le-leb f 14 b)
+    split false e = let h : 13 ≤ f = omega (arith, leb-false f 11 e) in simp (le-leb 3 f a, e, le-leb 13 f h, le-leb f 15 b)
 
 module _ (i : ℕ) (t : Task) where
   early : t .phase < 3 → 0 ≡ keeps i t
   early h = let k : t .phase < 13 = omega arith in simp (lt-leb 3 (t .phase) h, lt-leb 13 (t .phase) k)
 
-  late : 14 < t .phase → 0 ≡ keeps i t
+  late : 15 < t .phase → 0 ≡ keeps i t
   late h =
       let k : 11 < t .phase = omega arith in
       let l : 3 ≤ t .phase = omega arith in
       let m : 13 ≤ t .phase = omega arith in
-      simp (le-leb 3 (t .phase) l, lt-leb (t .phase) 11 k, le-leb 13 (t .phase) m, lt-leb (t .phase) 14 h)
+      simp (le-leb 3 (t .phase) l, lt-leb (t .phase) 11 k, le-leb 13 (t .phase) m, lt-leb (t .phase) 15 h)
 
   twelve : t .phase ≡ 12 → 0 ≡ keeps i t
   twelve h = rw h
 
-  same : 3 ≤ t .phase → t .phase ≤ 14 → (t .phase ≡ 12 → ⊥) → t .held .0 ≡ i → 1 ≡ keeps i t
+  same : 3 ≤ t .phase → t .phase ≤ 15 → (t .phase ≡ 12 → ⊥) → t .held .0 ≡ i → 1 ≡ keeps i t
   same a b n e = rw (holding (t .phase) a b n, eq-eqb (t .held .0) i e)
 
   other : (t .held .0 ≡ i → ⊥) → 0 ≡ keeps i t

@@ -11,9 +11,9 @@ use Rattle.tasks.proofs.Task.in_range.Statement.{statement}
 use Rattle.tasks.proofs.Task.in_range.Tie as tie
 
 module _ (n k : ℕ) (t : Task) where
-  phase-out : 14 < t .phase → false ≡ taskOk n k t
+  phase-out : 15 < t .phase → false ≡ taskOk n k t
   unfolding taskOk
-  phase-out h = rw (lt-leb (t .phase) 14 h)
+  phase-out h = rw (lt-leb (t .phase) 15 h)
 
   cell-out : n ≤ t .cell .0 → false ≡ taskOk n k t
   unfolding taskOk
@@ -27,9 +27,9 @@ module _ (n k : ℕ) (t : Task) where
   unfolding taskOk
   own-out h = simp (le-ltb (t .own .0) k h, and-false)
 
-  last : t .phase ≤ 14 → t .cell .0 < n → t .held .0 < k → t .own .0 < k → ltb (t .cursor .0) k ≡ taskOk n k t
+  last : t .phase ≤ 15 → t .cell .0 < n → t .held .0 < k → t .own .0 < k → ltb (t .cursor .0) k ≡ taskOk n k t
   unfolding taskOk
-  last f x m v = simp (le-leb (t .phase) 14 f, lt-ltb (t .cell .0) n x, lt-ltb (t .held .0) k m, lt-ltb (t .own .0) k v)
+  last f x m v = simp (le-leb (t .phase) 15 f, lt-ltb (t .cell .0) n x, lt-ltb (t .held .0) k m, lt-ltb (t .own .0) k v)
 
 returns : tie.Need-returns
 returns c = let a = c .before .before .args in phase-out (a .n) (a .k) (a .self) (omega arith)

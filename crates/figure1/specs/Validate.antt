@@ -1,0 +1,67 @@
+-- Source 004's words for VL, said without the sets: true exactly where the cell was not written since this task's load. A cell is written where
+-- a store to it takes. A task that has released the cell has given that load up: release is document 01's addition, source 004 has none.
+use Prim.Native.Nat.{ℕ, _+_}
+use mathlib.Core.Path.{_≡_}
+use mathlib.Core.Bool.{Bool, true, false, _&&_}
+use mathlib.Core.List.{List, [], _∷_, _++_}
+use lib.Dec.{eqb}
+use Rattle.tallies.specs.Tally.{bit}
+use Rattle.figure1.specs.Figure1.{Call, load, store, release, validate, Result, value, took, lost, released, good, gone, figure1}
+use Rattle.figure1.specs.Histories.{Status, quiet, asked, acted, State, Event, begins, acts, ends, after, afterAll}
+
+-- a sort of act: which task, which call, what figure 1 gives it
+abbrev pub Sort : Type 0
+Sort = ℕ → Call → Result → Bool
+
+abbrev pub taken : Result → Bool
+taken (value v) = false
+taken took = true
+taken lost = false
+taken released = false
+taken good = false
+taken gone = false
+
+-- a store to x that takes, by any task
+abbrev pub writes : ℕ → Sort
+writes x q (load y) r = false
+writes x q (store y v) r = eqb y x && taken r
+writes x q (release y) r = false
+writes x q (validate y) r = false
+
+-- a load of x by task p; a release of x by task p
+abbrev pub loads : ℕ → ℕ → Sort
+loads x p q (load y) r = eqb y x && eqb q p
+loads x p q (store y v) r = false
+loads x p q (release y) r = false
+loads x p q (validate y) r = false
+
+abbrev pub releases : ℕ → ℕ → Sort
+releases x p q (load y) r = false
+releases x p q (store y v) r = false
+releases x p q (release y) r = eqb y x && eqb q p
+releases x p q (validate y) r = false
+
+-- how many acts of a history are of a sort
+abbrev pub actOf : Sort → State → ℕ → Status → Bool
+actOf w a q quiet = false
+actOf w a q (asked c) = w q c (figure1 (a .cells) q c .result)
+actOf w a q (acted r) = false
+
+abbrev pub eventOf : Sort → State → Event → Bool
+eventOf w a (begins q c) = false
+eventOf w a (acts q) = actOf w a q (a .status q)
+eventOf w a (ends q r) = false
+
+abbrev pub actsOf : Sort → State → List Event → ℕ
+actsOf w a [] = 0
+actsOf w a (e ∷ es) = bit (eventOf w a e) + actsOf w (after a e) es
+
+-- after the history h from the state a: task p's last load of x acted after `earlier`, and `since` x was not written and p has not released it
+pub record Unwritten (x p : ℕ) (a : State) (h : List Event) : Type 0 where
+  pub earlier : List Event
+  pub since : List Event
+  pub split : h ≡ earlier ++ acts p ∷ since
+  pub loaded : afterAll a earlier .status p ≡ asked (load x)
+  pub last : actsOf (loads x p) (after (afterAll a earlier) (acts p)) since ≡ 0
+  pub unwritten : actsOf (writes x) (after (afterAll a earlier) (acts p)) since ≡ 0
+  pub unreleased : actsOf (releases x p) (after (afterAll a earlier) (acts p)) since ≡ 0
