@@ -1,11 +1,11 @@
--- Document 01's schedules by hand that are marked P, in its order and numbering, as rows of one table.
+-- Document 01's schedules by hand that are marked P, in its order and numbering, as rows of one table; then rows for document 02's requests.
 use Prim.Native.Nat.{ℕ}
 use mathlib.Core.List.{List, [], _∷_, _++_}
 use lib.ListN.{replicate}
-use Rattle.laws.specs.Bytes.{setup, go, load, store, release}
+use Rattle.laws.specs.Bytes.{setup, entry, go, load, store, release, validate}
 use Rattle.laws.specs.Small.{small}
 use Rattle.faults.specs.Benches.{mended, printed}
-use Rattle.cases.specs.Rows.{Row, sets, enters, runs, gives, counts, moves, loads, stores}
+use Rattle.cases.specs.Rows.{Row, sets, enters, runs, gives, counts, moves, loads, stores, validates}
 
 -- n values of 7
 abbrev pub sevens : ℕ → List ℕ
@@ -53,4 +53,32 @@ cases =
     -- 12. task 0 loads and releases, and the counts are again those of the fresh record
     enters mended small
     (counts (1 ∷ 1 ∷ 1 ∷ 0 ∷ 0 ∷ [])
-    ∷ loads 0 0 7 ++ gives (release 0) 0 0 0 ∷ gives (go 0) 4 0 0 ∷ counts (1 ∷ 1 ∷ 1 ∷ 0 ∷ 0 ∷ []) ∷ []) ∷ []
+    ∷ loads 0 0 7 ++ gives (release 0) 0 0 0 ∷ gives (go 0) 4 0 0 ∷ counts (1 ∷ 1 ∷ 1 ∷ 0 ∷ 0 ∷ []) ∷ []) ∷
+    -- Item 1. task 0 loads and validates, good; the counts and the link stay, so that it validates again, good, and its store takes
+    enters mended small
+    (loads 0 0 7 ++ counts (2 ∷ 1 ∷ 1 ∷ 0 ∷ 0 ∷ [])
+    ∷ validates 0 5 ++ counts (2 ∷ 1 ∷ 1 ∷ 0 ∷ 0 ∷ [])
+    ∷ validates 0 5 ++ stores 0 0 9 ++ counts (1 ∷ 1 ∷ 1 ∷ 0 ∷ 0 ∷ []) ∷ []) ∷
+    -- a validate's entries are accepted, and are no loads and no load steps
+    runs small (loads 0 0 7 ++ validates 0 5) (7 ∷ 0 ∷ 1 ∷ 4 ∷ 0 ∷ 0 ∷ []) ∷
+    -- both load 7; task 0's validate has begun when task 1 swaps in a 7 of its own (S1, S2): gone, though the value is the same; the stale link
+    -- stays, validates gone again, and its store is lost
+    enters mended small
+    (loads 0 0 7 ++ loads 1 0 7 ++ validates 0 5
+    ++ gives (validate 0) 0 0 0 ∷ gives (store 1 0 7) 0 1 0 ∷ moves 1 2 ++ gives (go 0) 6 0 0
+    ∷ counts (3 ∷ 1 ∷ 1 ∷ 0 ∷ 0 ∷ [])
+    ∷ validates 0 6 ++ counts (3 ∷ 1 ∷ 1 ∷ 0 ∷ 0 ∷ [])
+    ∷ gives (store 0 0 8) 0 0 0 ∷ moves 0 2 ++ gives (go 0) 3 0 0 ∷ counts (2 ∷ 1 ∷ 1 ∷ 0 ∷ 0 ∷ []) ∷ []) ∷
+    -- a stale link is released as any other
+    enters mended small (loads 0 0 7 ++ loads 1 0 7 ++ gives (store 1 0 9) 0 1 0 ∷ moves 1 7 ++ gives (go 1) 2 1 0 ∷ validates 0 6 ++ gives (release 0) 0 0 0 ∷ gives (go 0) 4 0 0 ∷ []) ∷
+    -- validate is refused while idle and while a load runs
+    enters mended small (gives (validate 0) 16 0 0 ∷ gives (load 0 0) 0 0 0 ∷ gives (validate 0) 16 0 0 ∷ []) ∷
+    -- while a validate runs no call can begin; once it has ended there is no step to make
+    enters mended small
+    (loads 0 0 7 ++ gives (validate 0) 0 0 0
+    ∷ gives (validate 0) 16 0 0 ∷ gives (load 0 0) 16 0 0 ∷ gives (store 0 0 9) 16 0 0 ∷ gives (release 0) 16 0 0
+    ∷ gives (go 0) 5 0 0 ∷ gives (go 0) 17 0 0 ∷ []) ∷
+    -- a task that isn't there; kind 5; a cell, a value and a sixth byte that are not zero
+    enters mended small
+    (loads 0 0 7 ++ gives (validate 2) 12 2 0 ∷ gives (entry 0 5 0 0) 13 0 0
+    ∷ gives (entry 0 4 1 0) 15 0 0 ∷ gives (entry 0 4 0 1) 15 0 0 ∷ gives (69 ∷ 78 ∷ 0 ∷ 4 ∷ 0 ∷ 1 ∷ 0 ∷ 0 ∷ 0 ∷ 0 ∷ []) 15 0 0 ∷ []) ∷ []

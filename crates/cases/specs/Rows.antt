@@ -11,7 +11,7 @@ use Rattle.cells.specs.declared.SetupAnswer.{SetupAnswer}
 use Rattle.cells.specs.Setup.{setupOf, setupNumber, setupBytes}
 use Rattle.wire.specs.Bytes.{replyOf}
 use Rattle.runs.specs.Run.{sixOf, ranOf, repliesOf}
-use Rattle.laws.specs.Bytes.{go, load, store}
+use Rattle.laws.specs.Bytes.{go, load, store, validate}
 use Rattle.faults.specs.Benches.{Bench}
 
 -- a line of a schedule by hand: an entry's bytes with its reply's number, task and value; or the counts of the nodes below K at that point
@@ -37,6 +37,10 @@ loads p x v = gives (load p x) 0 p 0 ∷ moves p 3 ++ gives (go p) 1 p v ∷ []
 -- a whole store of y to cell x by task p, with nothing between, that takes at its fourth step, S4
 abbrev pub stores : ℕ → ℕ → ℕ → List Line
 stores p x y = gives (store p x y) 0 p 0 ∷ moves p 3 ++ gives (go p) 2 p 0 ∷ []
+
+-- a whole validate by task p, with nothing between, answered r
+abbrev pub validates : ℕ → ℕ → List Line
+validates p r = gives (validate p) 0 p 0 ∷ gives (go p) r p 0 ∷ []
 
 -- two lists are the same
 abbrev pub same : List ℕ → List ℕ → Bool

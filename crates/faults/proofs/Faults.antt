@@ -1,18 +1,19 @@
--- The three faults, each with a schedule that breaks figure 1, and the mended table on the same schedule, which obeys it. Demand 2 says that
--- the cell values and the finished loads and stores are figure 1's, a load acting at its passing check, a store at its swap. Each first theorem
+-- The four faults, each with a schedule that breaks figure 1, and the mended table on the same schedule, which obeys it. Demand 2 says that
+-- the cell values and the finished loads and stores are figure 1's, a load acting at its passing check, a store at its swap, a validate at its step. Each
+-- first theorem
 -- says that the schedule's history isn't one of figure 1's; a later one, that it is until the last entry, and what that entry is answered.
 -- Assumes nothing.
 use mathlib.Core.Path.{_≡_, refl}
 use mathlib.Core.List.{_++_}
 use lib.ListN.{take}
 use Rattle.answers.specs.declared.Answer.the-variants.{Replied}
-use Rattle.answers.specs.declared.Reply.the-variants.{Loaded, Took, Lost}
+use Rattle.answers.specs.declared.Reply.the-variants.{Loaded, Took, Lost, Good, Gone}
 use Rattle.figure1.specs.Histories.{Follows}
 use Rattle.laws.specs.Bytes.{go}
 use Rattle.laws.specs.Small.{fresh}
-use Rattle.faults.specs.Benches.{mended, printed, rereading, comparing, computing}
+use Rattle.faults.specs.Benches.{mended, printed, rereading, comparing, validating, computing}
 use Rattle.faults.specs.Histories.{afterwards, answered, history}
-use Rattle.faults.specs.Schedules.{atStart, cellAfter, cellDue, oldCopy, itsStore, staleLink, sameValue}
+use Rattle.faults.specs.Schedules.{atStart, cellAfter, cellDue, oldCopy, itsStore, staleLink, sameValue, asksAfter}
 use Rattle.faults.proofs.Legal.{follows-legal, legal-follows}
 
 -- THE PRINTED ORDER. Entry 23 is task 1's check. It passes, so the load acts there and figure 1 gives it 11; the load ends with 7, a copy
@@ -77,3 +78,18 @@ pub mended-compares : Follows atStart (history mended fresh sameValue)
     × (cellAfter mended sameValue ≡ 7)
 unfolding computing history answered sameValue
 mended-compares = (legal-follows atStart (history mended fresh sameValue) tt, refl, refl)
+
+-- COMPARING VALUES IN A VALIDATE. Entry 15 is the step of task 0's validate. Task 1 stored the same 7 since task 0's load, so figure 1 gives gone;
+-- the validate ends with good.
+pub validating-breaks : Follows atStart (history validating fresh asksAfter) → ⊥
+unfolding computing history asksAfter
+validating-breaks = follows-legal atStart (history validating fresh asksAfter)
+
+pub validating-tells : Follows atStart (history validating fresh (take 14 asksAfter)) × (answered validating fresh (take 14 asksAfter) (go 0) ≡ Replied Good)
+unfolding computing history answered asksAfter
+validating-tells = (legal-follows atStart (history validating fresh (take 14 asksAfter)) tt, refl)
+
+-- The mended table on these entries: the step compares nodes, and the validate ends with gone.
+pub mended-validates : Follows atStart (history mended fresh asksAfter) × (answered mended fresh (take 14 asksAfter) (go 0) ≡ Replied Gone)
+unfolding computing history answered asksAfter
+mended-validates = (legal-follows atStart (history mended fresh asksAfter) tt, refl)

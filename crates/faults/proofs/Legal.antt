@@ -5,7 +5,7 @@ use mathlib.Core.Bool.{Bool, true, false, cond, _&&_}
 use mathlib.Core.List.{List, [], _∷_}
 use lib.Dec.{T, eqb, eqb-refl, eqb→eq}
 use Rattle.tallies.proofs.Lists.{each}
-use Rattle.figure1.specs.Figure1.{Result, value, took, lost, released}
+use Rattle.figure1.specs.Figure1.{Result, value, took, lost, released, good, gone}
 use Rattle.figure1.specs.Histories.{Status, quiet, asked, acted, State, Event, begins, acts, ends, Legal, Waiting, after, Follows}
 
 -- two results are the same when their kinds and their values are
@@ -14,12 +14,16 @@ kindOf (value v) = 0
 kindOf took = 1
 kindOf lost = 2
 kindOf released = 3
+kindOf good = 4
+kindOf gone = 5
 
 abbrev pub valueOf : Result → ℕ
 valueOf (value v) = v
 valueOf took = 0
 valueOf lost = 0
 valueOf released = 0
+valueOf good = 0
+valueOf gone = 0
 
 abbrev pub sameResult : Result → Result → Bool
 sameResult r s = eqb (kindOf r) (kindOf s) && eqb (valueOf r) (valueOf s)
@@ -56,13 +60,15 @@ both false b h k = absurd h
 
 -- a result is made of its kind and its value
 abbrev resultOf : ℕ → ℕ → Result
-resultOf k v = cond (eqb k 0) (value v) (cond (eqb k 1) took (cond (eqb k 2) lost released))
+resultOf k v = cond (eqb k 0) (value v) (cond (eqb k 1) took (cond (eqb k 2) lost (cond (eqb k 3) released (cond (eqb k 4) good gone))))
 
 made : (r : Result) → resultOf (kindOf r) (valueOf r) ≡ r
 made (value v) = refl
 made took = refl
 made lost = refl
 made released = refl
+made good = refl
+made gone = refl
 
 same-self : (r : Result) → T (sameResult r r)
 same-self r = both (eqb (kindOf r) (kindOf r)) (eqb (valueOf r) (valueOf r)) (eqb-refl (kindOf r)) (eqb-refl (valueOf r))

@@ -1,4 +1,4 @@
--- Step benches over the same record and the same bytes: the mended table of document 01, and three tables with a fault. Only steps differ:
+-- Step benches over the same record and the same bytes: the mended table of document 01, and four tables with a fault. Only steps differ:
 -- setup, starting a call and all that is refused before a step are the true ones.
 use Prim.Native.Nat.{ℕ}
 use mathlib.Core.Bool.{Bool, cond, not, _&&_}
@@ -7,7 +7,7 @@ use lib.Dec.{eqb, ltb}
 use lib.ListN.{getD, set}
 use Rattle.tallies.specs.Lists.{every, fillTo}
 use Rattle.wire.specs.Bytes.{marked, wordAt}
-use Rattle.answers.specs.declared.Reply.the-variants.{Moved, Loaded}
+use Rattle.answers.specs.declared.Reply.the-variants.{Moved, Loaded, Good, Gone}
 use Rattle.tasks.specs.declared.Task.{Task}
 use Rattle.tasks.specs.Records.{onward, holding, taskOk}
 use Rattle.steps.specs.declared.Effect.{Effect}
@@ -18,12 +18,13 @@ use Rattle.entries.specs.declared.Entry.{Entry}
 use Rattle.entries.specs.declared.EntryRead.{EntryRead}
 use Rattle.entries.specs.declared.EntryRead.the-variants.{Whole, Refused as Unread}
 use Rattle.entries.specs.Entry.{entryOf, nonzero, outside}
-use Rattle.entries.specs.Order.{loadOf, storeOf, releaseOf, callOf, orderOf}
+use Rattle.entries.specs.Order.{loadOf, storeOf, linkedOf, callOf, orderOf}
 use Rattle.cells.specs.declared.Machine.{Machine}
 use Rattle.cells.specs.declared.Applied.{Applied}
 use Rattle.cells.specs.Machine.{seenOf, carriedOf, inRange}
 use Rattle.cells.specs.Apply.{judgedOf, decisionOf, applyOf}
 use Rattle.cells.specs.Setup.{freshOf, setupOf}
+use Rattle.laws.specs.Acts.{checked}
 
 -- a row that may look at the whole record
 abbrev pub Row : Type 0
@@ -33,7 +34,7 @@ Row = Machine → Task → Effect
 abbrev pub asWritten : TableRow → Row
 asWritten r m t = r t (seenOf m t)
 
--- document 01's table, phases 0 to 14
+-- document 01's table, phases 0 to 15
 unfoldable pub table : List Row
 unfolding rows
 table = map asWritten rows
@@ -59,9 +60,9 @@ pub record Bench : Type 0 where
   pub apply : Machine → List ℕ → Applied
   pub passes : ℕ → ℕ → Bool
 
--- document 01's mended table: a check passes from L3 to L4
+-- document 01's mended table
 unfoldable pub mended : Bench
-mended = record { apply = applyOf; passes = λ f f′. eqb f 3 && eqb f′ 4 }
+mended = record { apply = applyOf; passes = checked }
 
 -- Figure 2 as source 000 prints it: c12 copies the node before c14 raises its count, and c16 returns the copy. The copy is kept in the
 -- task's value field, which a load doesn't use otherwise.
@@ -93,19 +94,31 @@ c22 m t = does (onward (holding t (nodeIn (m .cells) (t .cell))) 8) (Value (t .o
 
 unfoldable pub rereading : Bench
 unfolding table applyBy
-rereading = record { apply = applyBy (set table 7 c22); passes = λ f f′. eqb f 3 && eqb f′ 4 }
+rereading = record { apply = applyBy (set table 7 c22); passes = checked }
+
+-- the cell's value is that of m
+abbrev pub sameValueAt : Machine → Task → Bool
+sameValueAt m t = eqb (valueIn (m .values) (t .held)) (valueIn (m .values) (nodeIn (m .cells) (t .cell)))
 
 -- 8 S2 by values: if x still has the value of m, x points at own node; took 9, else 13
 abbrev pub s2ByValue : Row
 s2ByValue m t =
-    cond (eqb (valueIn (m .values) (t .held)) (valueIn (m .values) (nodeIn (m .cells) (t .cell))))
+    cond (sameValueAt m t)
     (does (onward t 9) (Point (t .cell) (t .own)) Moved) (does (onward t 13) Nothing Moved)
 
 unfoldable pub comparing : Bench
 unfolding table applyBy
-comparing = record { apply = applyBy (set table 8 s2ByValue); passes = λ f f′. eqb f 3 && eqb f′ 4 }
+comparing = record { apply = applyBy (set table 8 s2ByValue); passes = checked }
 
--- for `unfolding` lines: all that a setup and an entry compute with, and the four benches
+-- 15 V1 by values: good if x still has the value of m
+abbrev pub v1ByValue : Row
+v1ByValue m t = cond (sameValueAt m t) (does (onward t 6) Nothing Good) (does (onward t 6) Nothing Gone)
+
+unfoldable pub validating : Bench
+unfolding table applyBy
+validating = record { apply = applyBy (set table 15 v1ByValue); passes = checked }
+
+-- for `unfolding` lines: all that a setup and an entry compute with, and the five benches
 unfoldable pub computing : Unit {0}
-unfolding every fillTo marked wordAt taskOk rows effectOf after raisedOf loweredOf sizesOk entryOf nonzero outside loadOf storeOf releaseOf callOf orderOf carriedOf inRange judgedOf decisionOf applyOf freshOf setupOf mended printed rereading comparing
+unfolding every fillTo marked wordAt taskOk rows effectOf after raisedOf loweredOf sizesOk entryOf nonzero outside loadOf storeOf linkedOf callOf orderOf carriedOf inRange judgedOf decisionOf applyOf freshOf setupOf mended printed rereading comparing validating
 computing = tt

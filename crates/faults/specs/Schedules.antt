@@ -2,10 +2,10 @@
 -- A number at the right counts the entries up to there; what was done by then is said of the faulty bench.
 use Prim.Native.Nat.{ℕ}
 use mathlib.Core.List.{List, [], _∷_, _++_}
-use lib.ListN.{replicate}
+use lib.ListN.{take, replicate}
 use Rattle.tables.specs.Tables.{valueGiven}
 use Rattle.figure1.specs.Histories.{State, afterAll, start}
-use Rattle.laws.specs.Bytes.{go, load, store}
+use Rattle.laws.specs.Bytes.{go, load, store, validate}
 use Rattle.laws.specs.Small.{small, fresh}
 use Rattle.faults.specs.Benches.{Bench}
 use Rattle.laws.specs.Acts.{valueOfCell}
@@ -57,3 +57,8 @@ sameValue =
     ++ store 1 0 7 ∷ replicate 2 (go 1)  -- 13: task 1 has swapped: the cell is 7, at node 2, and nobody is in S
     ++ store 0 0 8 ∷ replicate 2 (go 0)  -- 16: task 0 has compared 7 with 7 and swapped
     ++ go 1 ∷ go 0 ∷ go 0 ∷ []  -- 19: task 1 did S3, task 0 S3 and S4
+
+-- Comparing values in a validate. The first 13 entries are those of `sameValue`; then task 0 asks whether its link is good.
+unfoldable pub asksAfter : List (List ℕ)
+unfolding sameValue
+asksAfter = take 13 sameValue ++ validate 0 ∷ go 0 ∷ []  -- 15: task 0 has compared 7 with 7

@@ -12,19 +12,22 @@ use Rattle.cells.specs.Apply.{applyOf}
 use Rattle.cells.specs.Setup.{blankOf, setupOf}
 use Rattle.runs.specs.Counts.{accepted, taskOf, anywhere, loadsAt, stepsAt, turnedAt, swapsAt}
 use Rattle.runs.specs.Run.{entriesIn, entriesOf, replyBytes, repliesOf, untriedOf, ranOf, bufferOf}
-use Rattle.figure1.specs.Figure1.{Call, Result}
+use Rattle.figure1.specs.Figure1.{Call, validate, Result, good, gone, figure1}
 use Rattle.figure1.specs.Histories.{State, Event, begins, ends, after, afterAll, Follows, start}
 use Rattle.figure1.specs.Counts.{beginsBy, actsBy, endsBy, number}
 use Rattle.figure1.specs.Calls.{Acted, Called}
+use Rattle.figure1.specs.Validate.{Unwritten}
 use Rattle.figure1.specs.Engine.{history}
 use Rattle.figure1.proofs.Lift.{follows-split}
 use Rattle.figure1.proofs.Once.{finished, unfinished, in-order, cells-stay}
+use Rattle.figure1.proofs.Validate.{validate-good, validate-gone}
 use Rattle.laws.specs.Types.{Refused, Refusal, NoRoom, Damaged, TooLong, Deed, Machine, Ready, NotSetUp}
 use Rattle.laws.specs.Acts.{Matches, finishes, eventsOf}
+use Rattle.laws.specs.Validate.{Validated}
 use Rattle.laws.specs.Schedules.{applied, tried, before, entry, Reached, Scheduled, over}
 use Rattle.laws.specs.Beyond.{Bare, Alike, Alike-after}
 use Rattle.laws.specs.Accepts.{Fits}
-use Rattle.laws.specs.Outcomes.{Outcome, Steps}
+use Rattle.laws.specs.Outcomes.{Asks, Outcome, Steps}
 use Rattle.laws.specs.Moves.{Moves}
 use Rattle.laws.proofs.Entries.{outcome, refused-leaves}
 use Rattle.laws.proofs.Rows.{moves}
@@ -35,6 +38,7 @@ use Rattle.laws.proofs.Reached.{schedule-keeps, reached-kept, scheduled
 use Rattle.laws.proofs.Beyond.{reached-bare, entry-alike}
 use Rattle.laws.proofs.Damage.{in-range, entry-undamaged, run-undamaged}
 use Rattle.laws.proofs.Engine.{pool, follows, matches, answered, replies-follow}
+use Rattle.laws.proofs.Validate as Validate
 use lib.Dec.{T, eqb}
 use Rattle.tallies.specs.Lists.{within}
 use Rattle.tallies.specs.Tally.{tally}
@@ -49,7 +53,7 @@ use Rattle.laws.proofs.Counts.{count-is}
 use Rattle.laws.proofs.Busy.{busy-most}
 use Rattle.laws.proofs.Bound.{load-bound, turned-bound}
 use Rattle.laws.proofs.Numbers.{run-starts, run-is, chain-loads, chain-steps, chain-swaps}
-use Rattle.laws.proofs.Solo.{load-solo, store-solo, store-sooner, release-solo}
+use Rattle.laws.proofs.Solo.{load-solo, store-solo, store-sooner, release-solo, validate-solo}
 use Rattle.laws.proofs.Sharp as Sharp
 
 -- DEMAND 1. Whatever is handed over is answered or refused with a number, and a refusal changes nothing beyond what its answer takes up.
@@ -121,6 +125,12 @@ module _ (s : List ℕ) (used : ℕ) (ok : setupOf s .answer ≡ Ready used) (es
       → (us : List Event) × (eventsOf (applied (setupOf s .machine) es) e ≡ us ++ ends (getD e 2 0) x ∷ []) × Called (getD e 2 0) x first (past ++ us)
   answers-are-figure1s = answered s used ok es
 
+  -- a validate's step is answered good where its cell was not written since its task's load, and gone where it was: source 004's words, which
+  -- name no set (Validate)
+  pub validate-tells : (e : List ℕ) → accepted (applyOf (applied (setupOf s .machine) es) e .answer) ≡ true → Asks (applied (setupOf s .machine) es) e 0 15
+      → Validated (taskOf (applied (setupOf s .machine) es) e .cell .0) (getD e 2 0) first past (applyOf (applied (setupOf s .machine) es) e .answer)
+  validate-tells = Validate.validate-tells s used ok es
+
   -- a finished call acted exactly once, between its beginning and its end, and ended with what figure 1 gave there (figure1's Once)
   pub finished-call : (p : ℕ) (c : Call) (r : Result) (xs h rest : List Event) → past ≡ xs ++ (begins p c ∷ h ++ ends p r ∷ rest) → number (endsBy p) h ≡ 0
       → (number (actsBy p) h ≡ 1) × Acted p c (after (afterAll first xs) (begins p c)) h r
@@ -139,6 +149,18 @@ module _ (s : List ℕ) (used : ℕ) (ok : setupOf s .answer ≡ Ready used) (es
 pub reached-matches : {m : Machine} → Reached m
     → (r : Scheduled m) × Matches m (afterAll (start (valueGiven (r .setup))) (history pool (setupOf (r .setup) .machine) (r .entries)))
 reached-matches h = let r = scheduled h in (r, rw (r .reaches) at (matches (r .setup) (r .used) (r .ready) (r .entries)))
+
+-- figure 1's validate asks the set, source 004's asks whether the cell was written since the task's load: after any history the two give the same
+-- (figure1's Validate)
+module _ (vals : ℕ → ℕ) (h : List Event) (x p : ℕ) where
+  abbrev pub told : Result
+  told = figure1 (afterAll (start vals) h .cells) p (validate x) .result
+
+  pub good-exactly : (told ≡ good → Unwritten x p (start vals) h) × (Unwritten x p (start vals) h → told ≡ good)
+  good-exactly = validate-good vals h x p
+
+  pub gone-exactly : (told ≡ gone → Unwritten x p (start vals) h → ⊥) × ((Unwritten x p (start vals) h → ⊥) → told ≡ gone)
+  gone-exactly = validate-gone vals h x p
 
 -- the cells change only where a call acts
 pub only-acts-change : (h : List Event) (a : State) → ((q : ℕ) → number (actsBy q) h ≡ 0) → afterAll a h .cells ≡ a .cells
@@ -220,6 +242,10 @@ module _ {m : Machine} (r : Reached m) (p : ℕ) (h : p < m .p) where
   -- its release within 1
   pub release-ends : phase ≡ 14 → Within 1 m p
   release-ends = release-solo p m (reached-kept r) h
+
+  -- its validate within 1
+  pub validate-ends : phase ≡ 15 → Within 1 m p
+  validate-ends = validate-solo p m (reached-kept r) h
 
   -- a store that looks for a node finds two free, so its search ends (Room)
   pub room-to-store : phase ≡ 12 → 2 ≤ free m

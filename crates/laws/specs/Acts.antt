@@ -60,8 +60,11 @@ abbrev pub actsWhere : (ℕ → ℕ → Bool) → ℕ → ℕ → Bool
 actsWhere passes f f′ = passes f f′ || (eqb f 8 || within 14 15 f)
 
 -- in document 01's table a check passes from L3 to L4
+abbrev pub checked : ℕ → ℕ → Bool
+checked f f′ = eqb f 3 && eqb f′ 4
+
 abbrev pub actsFrom : ℕ → ℕ → Bool
-actsFrom = actsWhere (λ f f′. eqb f 3 && eqb f′ 4)
+actsFrom = actsWhere checked
 
 -- a call ends with its reply
 abbrev pub ending : Reply → List Result

@@ -6,6 +6,7 @@ pub mod Outcomes
 pub mod Moves
 pub mod Accepts
 pub mod Acts
+pub mod Validate
 pub mod Schedules
 pub mod Bytes
 pub mod Small

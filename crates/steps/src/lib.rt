@@ -193,7 +193,8 @@ fn store_step(t: Task, s: Seen) -> Effect
 fn validate_step(t: Task, s: Seen) -> Effect
     ensures { λ r. ⌜ r ≡ v1 t s ⌝ }
 {
-    if t.held.0 == s.here.0 {
+    let good = t.held.0 == s.here.0;
+    if good {
         done(t.onward(6), Write::Nothing, Reply::Good)
     } else {
         done(t.onward(6), Write::Nothing, Reply::Gone)

@@ -1,5 +1,4 @@
--- `validate_step`: row 15 of the table. Assumes nothing.
-use borrow.Author.Tests.{eq-eqb, ne-eqb}
+-- `validate_step`: row 15 of the table, by what the comparison found. Assumes nothing.
 use borrow.Author.Needs.{needs}
 use Rattle.steps.proofs.validate_step.Statement.{statement}
 use Rattle.steps.proofs.validate_step.Tie as tie
@@ -17,10 +16,10 @@ done-requires-2 : tie.Need-done-requires-2
 done-requires-2 c κs = search needs
 
 returns : tie.Need-returns
-returns c = rw (c .done .ensures, c .before .onward .ensures, eq-eqb _ _ (c .before .before .if1 .taken))
+returns c = rw (c .done .ensures, c .before .onward .ensures, c .before .before .if1 .taken)
 
 returns-2 : tie.Need-returns-2
-returns-2 c = rw (c .done2 .ensures, c .before .onward2 .ensures, ne-eqb _ _ (c .before .before .if1 .left))
+returns-2 c = rw (c .done2 .ensures, c .before .onward2 .ensures, c .before .before .if1 .left)
 
 pub validate-step-spec : {M : Type 1} → statement M
 validate-step-spec =
