@@ -27,8 +27,10 @@ pub(crate) fn steps() {
     stepped(14, 0);
     // S4 lowers nothing: the count of 0 is met one step later.
     stepped(10, 0);
+    // V1 lowers nothing either.
+    stepped(15, 0);
     stepped(2, 2);
     stepped(2, 3);
     // Damage by the ranges, with a go as well as with the load above.
-    stepped(15, 1);
+    stepped(16, 1);
 }

@@ -1,4 +1,4 @@
-// The lengths of a reply buffer and of an entry. Task 0 is in phase 0, as setup made it, or 15, which is damage.
+// The lengths of a reply buffer and of an entry. Task 0 is in phase 0, as setup made it, or 16, which is damage.
 use crate::hurts;
 use crate::lines;
 use crate::same;
@@ -30,8 +30,8 @@ pub(crate) fn runs() {
     ran(0, 11, 16);
     ran(0, 11, 15);
     ran(0, 0, 0);
-    ran(15, 20, 15);
-    ran(15, 0, 0);
+    ran(16, 20, 15);
+    ran(16, 0, 0);
 }
 
 // The first n bytes of a load and a go, taken as one entry.
@@ -62,7 +62,7 @@ pub(crate) fn entries() {
     tried(0, 9);
     tried(0, 10);
     tried(0, 20);
-    tried(15, 0);
+    tried(16, 0);
     io::write_all(1, b"record of 20 bytes, against that of their first 10:");
     lines::kept(same::same(after(20), after(10)));
     io::write_all(1, b"\n");

@@ -4,14 +4,13 @@ use Prim.Native.Nat.{ℕ, _+_, _<_}
 use native.Mathlib.Omega.{arith}
 use native.Mathlib.Decide.{ℕ-discrete}
 use mathlib.Core.Path.{_≡_, refl, sym, ap, _∙_}
-use mathlib.Core.Bool.{Bool, true, false, cond, _&&_, and-false, false≢true}
-use mathlib.Core.List.{List, [], _∷_, _++_}
+use mathlib.Core.Bool.{Bool, true, false, cond, and-false, false≢true}
+use mathlib.Core.List.{List, [], _∷_}
 use mathlib.Core.Logic.{_≢_, _⊎_, inl, inr}
-use lib.Dec.{eqb}
 use borrow.Author.Tests.{eq-eqb, ne-eqb}
 use Rattle.tallies.specs.Tally.{bit}
-use Rattle.figure1.specs.Figure1.{put, Call, load, store, release, validate, Result, good, gone, figure1}
-use Rattle.figure1.specs.Histories.{Status, quiet, asked, acted, State, Event, begins, acts, ends, act, after, afterAll, start}
+use Rattle.figure1.specs.Figure1.{load, store, release, validate, Result, good, gone, figure1}
+use Rattle.figure1.specs.Histories.{Status, quiet, asked, acted, State, Event, begins, acts, ends, after, afterAll, start}
 use Rattle.figure1.specs.Validate.{writes, loads, releases, eventOf, actsOf, Unwritten}
 use Rattle.figure1.proofs.Lift.{after-append}
 
@@ -83,11 +82,14 @@ module _ (x p : ℕ) where
             unwritten = u .unwritten;
             unreleased = u .unreleased;
           })
-      go (inr (k, s)) (none l v r q) = inr (sym q ∙ k, record {
-        unloaded = rw l (omega (arith, s .unloaded));
-        unwritten = rw v (omega (arith, s .unwritten));
-        unreleased = rw r (omega (arith, s .unreleased));
-      })
+      go (inr (k, s)) (none l v r q) = inr (
+        sym q ∙ k,
+        record {
+          unloaded = rw l (omega (arith, s .unloaded));
+          unwritten = rw v (omega (arith, s .unwritten));
+          unreleased = rw r (omega (arith, s .unreleased));
+        },
+      )
       go (inr (k, s)) (joins q l) =
           inl (record {
             earlier = [];

@@ -125,8 +125,8 @@ module _ (s : List ℕ) (used : ℕ) (ok : setupOf s .answer ≡ Ready used) (es
       → (us : List Event) × (eventsOf (applied (setupOf s .machine) es) e ≡ us ++ ends (getD e 2 0) x ∷ []) × Called (getD e 2 0) x first (past ++ us)
   answers-are-figure1s = answered s used ok es
 
-  -- a validate's step is answered good where its cell was not written since its task's load, and gone where it was: source 004's words, which
-  -- name no set (Validate)
+  -- a validate's step is answered good where its task is in S of its cell and gone where it is not; and that is, in source 004's words, where the
+  -- cell was not written since the task's load (Validate)
   pub validate-tells : (e : List ℕ) → accepted (applyOf (applied (setupOf s .machine) es) e .answer) ≡ true → Asks (applied (setupOf s .machine) es) e 0 15
       → Validated (taskOf (applied (setupOf s .machine) es) e .cell .0) (getD e 2 0) first past (applyOf (applied (setupOf s .machine) es) e .answer)
   validate-tells = Validate.validate-tells s used ok es

@@ -2,7 +2,7 @@
 use Prim.Native.Nat.{ℕ, suc}
 use native.Mathlib.Omega.{arith}
 use mathlib.Core.Path.{_≡_, refl, sym, ap, subst, _∙_}
-use mathlib.Core.Bool.{Bool, true, false, false≢true, true≢false}
+use mathlib.Core.Bool.{true, false≢true}
 use mathlib.Core.List.{List}
 use lib.Dec.{eqb}
 use lib.ListN.{getD}
@@ -64,8 +64,9 @@ module _ (s : List ℕ) (used : ℕ) (ok : setupOf s .answer ≡ Ready used) (es
     unfolding rows
     row d w = subst Told (ap answerOf (sym (effect-at t (seenOf m t) 15 (a .phase)) ∙ w .does))
         (by-test (λ y. Told (answerOf y)) (eqb held here) _ _
-        (λ q. good (in-set x (getD e 2 0) (valueGiven s) past (member ∙ eq-eqb here held (sym (eqb-true held here q)))))
-        (λ q. gone (λ u. false≢true (sym (ne-eqb here held (λ k. eqb-false held here q (sym k))) ∙ sym member ∙ unwritten-in x (getD e 2 0) first past u))))
+        (λ q. let w = member ∙ eq-eqb here held (sym (eqb-true held here q)) in good w (in-set x (getD e 2 0) (valueGiven s) past w))
+        (λ q. let w = member ∙ ne-eqb here held (λ k. eqb-false held here q (sym k)) in
+        gone w (λ u. false≢true (sym w ∙ unwritten-in x (getD e 2 0) first past u))))
 
   pub validate-tells : accepted (applyOf m e .answer) ≡ true → Asks m e 0 15 → Told (applyOf m e .answer)
   validate-tells =

@@ -86,5 +86,6 @@ pub(crate) fn phases() {
     one(13);
     one(14);
     one(15);
+    one(16);
     one(255);
 }

@@ -35,6 +35,7 @@ pub(crate) fn lone() {
         Call::Store(4294967295),
     );
     begun(b"lone, release", linked, Call::Release);
+    begun(b"lone, validate", linked, Call::Validate);
 }
 
 fn records(label: &[u8], ts: [Task; 4]) {
