@@ -27,6 +27,44 @@ uint32_t kemilunda_setup(const uint8_t *input, size_t input_size);
 /* How many bytes that setup record takes, 0 where it is refused. */
 size_t kemilunda_setup_bytes(const uint8_t *input, size_t input_size);
 
+/*
+ * An entry of a schedule has 10 bytes: 45 4E, task, kind, cell, 00, value (4,
+ * the lowest byte first). Its kind:
+ *
+ *    0  go: the task makes the next step of its call
+ *    1  load
+ *    2  store
+ *    3  release
+ *    4  validate: is the link still good?
+ *
+ * The cell is zero for all but load and store, the value for all but store.
+ *
+ * The number of a reply; the value is 0 for all but 1:
+ *
+ *    0  the call has begun, or moved on
+ *    1  the load has finished, with its value
+ *    2  the store took
+ *    3  the store is lost
+ *    4  the link is released
+ *    5  good: the cell has not been written since the task's load
+ *    6  gone: it has; the link stays until a store or release ends it
+ *
+ * or the entry's refusal:
+ *
+ *   12  no such task
+ *   13  kind above 4
+ *   14  load or store of a cell that is not there
+ *   15  a byte that must be zero is not
+ *   16  load while not idle; store, release or validate while not linked
+ *   17  go while idle or linked
+ *   18  store to a cell other than the linked one
+ *   19  wrong mark
+ *   20  fewer than 10 bytes left
+ *
+ * 22, a damaged machine (a phase above 15 is damage, for one), is never given
+ * here: every run starts from a fresh machine, and no step damages one.
+ */
+
 /* Where a run's numbers stand in the last argument of kemilunda_run. */
 enum {
     KEMILUNDA_ACCEPTED,    /* entries accepted */

@@ -1,4 +1,4 @@
-# Records of document 01 as bytes, for the scripts beside this file.
+# Records of documents 01 and 02 as bytes, for the scripts beside this file.
 # To be read in with '.'; each function writes its record to standard output.
 
 # numbers 0 to 255, one byte each
@@ -37,12 +37,17 @@ go() {
     done
 }
 
-# load TASK CELL, store TASK CELL VALUE, release TASK: the start of a call
+# load TASK CELL, store TASK CELL VALUE, release TASK, validate TASK: the start
+# of a call
 load() { entry "$1" 1 "$2" 0; }
 store() { entry "$1" 2 "$2" "$3"; }
 release() { entry "$1" 3 0 0; }
+validate() { entry "$1" 4 0 0; }
 
-# The inputs of document 01's cases that are also kept in examples/.
+# The inputs that are also kept in examples/: document 01's cases, and one for
+# the validate of document 02's item 1.
+# shellcheck disable=SC2034
+examples="case03 case09 case10 case11 case12 case_validate"
 
 # one task loads 7 and stores 9
 case03() {
@@ -85,4 +90,16 @@ case12() {
     setup 1 2 5 7
     load 0 0; go 0 4
     release 0; go 0
+}
+
+# task 0 loads and finds its link good; task 1 loads and stores; task 0 finds
+# its link gone, and its store is lost
+case_validate() {
+    setup 1 2 5 7
+    load 0 0; go 0 4
+    validate 0; go 0
+    load 1 0; go 1 4
+    store 1 0 9; go 1 8
+    validate 0; go 0
+    store 0 0 8; go 0 3
 }

@@ -19,6 +19,11 @@ static void note_others(unsigned long order[NUMBERS][NUMBERS], unsigned given,
             order[given][i]++;
 }
 
+static bool has_value(const uint8_t *entry)
+{
+    return entry[6] != 0 || entry[7] != 0 || entry[8] != 0 || entry[9] != 0;
+}
+
 static void entry_faults(const struct machine *m, const uint8_t *e, size_t left,
                          bool fault[NUMBERS])
 {
@@ -28,13 +33,13 @@ static void entry_faults(const struct machine *m, const uint8_t *e, size_t left,
         return;
 
     uint8_t task = e[2], kind = e[3], cell = e[4];
-    bool value = e[6] != 0 || e[7] != 0 || e[8] != 0 || e[9] != 0;
     bool names_cell = kind == LOAD || kind == STORE;
+    bool names_none = kind == GO || kind == RELEASE || kind == VALIDATE;
 
     fault[BAD_TASK] = task >= m->tasks;
     fault[BAD_KIND] = kind >= KINDS;
-    fault[NOT_ZERO] = e[5] != 0 || (cell != 0 && (kind == GO || kind == RELEASE)) ||
-                      (value && kind < KINDS && kind != STORE);
+    fault[NOT_ZERO] = e[5] != 0 || (cell != 0 && names_none) ||
+                      (has_value(e) && kind < KINDS && kind != STORE);
     fault[BAD_CELL] = names_cell && cell >= m->cells;
     if (fault[BAD_TASK])
         return;
@@ -42,7 +47,8 @@ static void entry_faults(const struct machine *m, const uint8_t *e, size_t left,
     const struct task *t = &m->task[task];
 
     fault[BAD_CALL] = (kind == LOAD && t->phase != IDLE) ||
-                      ((kind == STORE || kind == RELEASE) && t->phase != LINKED);
+                      ((kind == STORE || kind == RELEASE || kind == VALIDATE) &&
+                       t->phase != LINKED);
     fault[BAD_GO] = kind == GO && (t->phase == IDLE || t->phase == LINKED);
     fault[OTHER_CELL] = kind == STORE && cell != t->cell;
 }
@@ -67,6 +73,8 @@ struct walk {
     unsigned long seen[MAX_TASKS];     /* the same, when the task read its cell */
     unsigned long busy_met[MAX_TASKS]; /* busy nodes in the task's S6 walk */
     bool turned[MAX_TASKS];
+    uint8_t validated[MAX_TASKS];      /* how its link's last validate ended, or 0 */
+    bool began_good[MAX_TASKS];        /* its cell was still at its node then */
 };
 
 static void cover_load_step(struct coverage *c, struct walk *w,
@@ -120,6 +128,94 @@ static void cover_store_step(struct coverage *c, struct walk *w,
     }
 }
 
+static void cover_validate_step(struct validates *v, struct walk *w,
+                                const struct machine *before, struct answer a)
+{
+    const struct task *t = &before->task[a.task];
+    uint8_t node = before->node_of[t->cell];
+    uint8_t last = w->validated[a.task];
+
+    v->good_elsewhere += a.number == GOOD && t->cell != 0;
+    v->gone_equal += a.number == GONE &&
+                     before->value[node] == before->value[t->held];
+    v->gone_between += a.number == GONE && w->began_good[a.task];
+    v->good_good += last == GOOD && a.number == GOOD;
+    v->good_gone += last == GOOD && a.number == GONE;
+    v->gone_gone += last == GONE && a.number == GONE;
+    w->validated[a.task] = a.number;
+}
+
+/* Of a link: its start, the calls begun on it, the step of a validate. */
+static void cover_link(struct validates *v, struct walk *w,
+                       const struct machine *before,
+                       const struct machine *after, struct answer a)
+{
+    const struct task *t = &after->task[a.task];
+
+    if (a.met == L4)
+        w->validated[a.task] = 0;
+    if (a.met == LINKED && t->phase == V1)
+        w->began_good[a.task] = before->node_of[t->cell] == t->held;
+    if (a.met == LINKED && t->phase == S1) {
+        v->stored_good += w->validated[a.task] == GOOD;
+        v->stored_gone += w->validated[a.task] == GONE;
+    }
+    if (a.met == V1)
+        cover_validate_step(v, w, before, a);
+}
+
+/* The call that a task in the phase has running; GO where it has none. */
+static enum kind running(uint8_t phase)
+{
+    if (phase >= L1 && phase <= L5)
+        return LOAD;
+    if (phase >= S1 && phase <= S7)
+        return STORE;
+    return phase == R1 ? RELEASE : phase == V1 ? VALIDATE : GO;
+}
+
+/* A refused validate, and what is refused during one or after one. */
+static void cover_refused_on_link(struct validates *v, const struct walk *w,
+                                  const struct machine *m,
+                                  const uint8_t *entry, struct answer a)
+{
+    uint8_t kind = entry[3];
+    bool validate = kind == VALIDATE;
+    bool cell = entry[4] != 0, spare = entry[5] != 0, value = has_value(entry);
+
+    switch (a.number) {
+    case BAD_CALL:
+        v->during[kind] += m->task[a.task].phase == V1;
+        if (validate)
+            v->early[running(m->task[a.task].phase)]++;
+        break;
+    case BAD_GO:
+        v->go_after += m->task[a.task].phase == LINKED && w->validated[a.task] != 0;
+        break;
+    case NOT_ZERO:
+        v->for_cell += validate && cell && !spare && !value;
+        v->for_spare += validate && spare && !cell && !value;
+        v->for_value += validate && value && !cell && !spare;
+    }
+}
+
+static void cover_refused(struct coverage *c, const struct walk *w,
+                          const struct machine *m, const uint8_t *entry,
+                          size_t left, struct answer a)
+{
+    bool fault[NUMBERS] = { false };
+
+    entry_faults(m, entry, left, fault);
+    note_others(c->entry_order, a.number, fault);
+    if (a.number == CUT) {
+        c->cut[left]++;
+        return;
+    }
+    if (entry[3] == VALIDATE)
+        note_others(c->validate_order, a.number, fault);
+    cover_refused_on_link(&c->validates, w, m, entry, a);
+}
+
 static void cover_entry(struct coverage *c, struct walk *w, struct machine *m,
                         const uint8_t *entry, size_t left, bool *stop)
 {
@@ -129,17 +225,13 @@ static void cover_entry(struct coverage *c, struct walk *w, struct machine *m,
     c->number[a.number]++;
     *stop = is_refusal(a.number);
     if (*stop) {
-        bool fault[NUMBERS] = { false };
-
-        entry_faults(m, entry, left, fault);
-        note_others(c->entry_order, a.number, fault);
-        if (a.number == CUT)
-            c->cut[left]++;
+        cover_refused(c, w, m, entry, left, a);
         return;
     }
     c->phase[a.met]++;
     cover_load_step(c, w, &before, m, a);
     cover_store_step(c, w, &before, m, a);
+    cover_link(&c->validates, w, &before, m, a);
 
     unsigned long busy = 0;
 
@@ -204,6 +296,12 @@ static const uint8_t ENTRY_ORDERS[][2] = {
     { 16, 18 },
 };
 
+static const uint8_t VALIDATE_ORDERS[][2] = {
+    { 19, 12 }, { 19, 15 }, { 19, 16 },
+    { 12, 15 },
+    { 15, 16 },
+};
+
 static const uint8_t SETUP_ORDERS[][2] = {
     { 20, 19 }, /* cut in the head */
     { 19, 15 }, { 19, 11 }, { 19, 20 },
@@ -217,7 +315,7 @@ static const uint8_t SETUP_ORDERS[][2] = {
  * from an accepted setup is damaged, and no bytes ask the holders question. */
 static bool reachable(unsigned number)
 {
-    return number <= RELEASED || (number >= BAD_SIZES && number < NO_ROOM) ||
+    return number <= GONE || (number >= BAD_SIZES && number < NO_ROOM) ||
            number == TOO_LONG;
 }
 
@@ -267,6 +365,46 @@ static void print_depth(FILE *out, const struct coverage *c)
     fprintf(out, "  most tasks busy at once %lu\n", c->most_busy);
 }
 
+static unsigned print_validates(FILE *out, const struct validates *v)
+{
+    const struct {
+        const char *what;
+        unsigned long met;
+    } rows[] = {
+        { "good, of a cell other than 0", v->good_elsewhere },
+        { "gone, though the cell's value is the same", v->gone_equal },
+        { "gone at the step, good when it began", v->gone_between },
+        { "good after good on one link", v->good_good },
+        { "gone after good on one link", v->good_gone },
+        { "gone after gone on one link", v->gone_gone },
+        { "store begun after a good one", v->stored_good },
+        { "store begun after a gone one", v->stored_gone },
+        { "go after its end, 17", v->go_after },
+        { "load begun before its step, 16", v->during[LOAD] },
+        { "store begun before its step, 16", v->during[STORE] },
+        { "release begun before its step, 16", v->during[RELEASE] },
+        { "begun while idle, 16", v->early[GO] },
+        { "begun in a load, 16", v->early[LOAD] },
+        { "begun in a store, 16", v->early[STORE] },
+        { "begun in a release, 16", v->early[RELEASE] },
+        { "begun in a validate, 16", v->early[VALIDATE] },
+        { "its cell not zero, 15", v->for_cell },
+        { "its sixth byte not zero, 15", v->for_spare },
+        { "its value not zero, 15", v->for_value },
+    };
+    unsigned never = 0;
+
+    fprintf(out, "validates:\n");
+    for (size_t i = 0; i < COUNT_OF(rows); i++) {
+        fprintf(out, "  %-42s %9lu\n", rows[i].what, rows[i].met);
+        if (rows[i].met == 0) {
+            fprintf(out, "never met: validate, %s\n", rows[i].what);
+            never++;
+        }
+    }
+    return never;
+}
+
 static unsigned print_lengths(FILE *out, const struct coverage *c)
 {
     unsigned never = 0;
@@ -299,7 +437,7 @@ unsigned coverage_print(FILE *out, const struct coverage *c)
     }
     fprintf(out, "replies and refusals:\n");
     for (unsigned i = 0; i < NUMBERS; i++) {
-        if (i > RELEASED && i < BAD_SIZES)
+        if (i > GONE && i < BAD_SIZES)
             continue;
         fprintf(out, "  %-7s %2u %11lu%s\n", is_refusal(i) ? "refusal" : "reply", i,
                 c->number[i], reachable(i) ? "" : "  (not through the program)");
@@ -308,9 +446,12 @@ unsigned coverage_print(FILE *out, const struct coverage *c)
     }
     never += print_orders(out, "entries", ENTRY_ORDERS, COUNT_OF(ENTRY_ORDERS),
                           c->entry_order);
+    never += print_orders(out, "validates", VALIDATE_ORDERS,
+                          COUNT_OF(VALIDATE_ORDERS), c->validate_order);
     never += print_orders(out, "setups", SETUP_ORDERS, COUNT_OF(SETUP_ORDERS),
                           c->setup_order);
     never += print_lengths(out, c);
+    never += print_validates(out, &c->validates);
     print_depth(out, c);
     return never;
 }

@@ -7,6 +7,24 @@
 
 #include "../second/bench.h"
 
+/* Where a validate that answers or acts in a wrong way would show. */
+struct validates {
+    unsigned long good_elsewhere; /* good, of a cell other than 0 */
+    unsigned long gone_equal;     /* gone, though the cell's value is the same */
+    unsigned long gone_between;   /* gone at the step, good when it began */
+    unsigned long good_good;      /* two in a row on one link */
+    unsigned long good_gone;
+    unsigned long gone_gone;
+    unsigned long stored_good;    /* stores begun after a good one */
+    unsigned long stored_gone;    /* stores begun after a gone one */
+    unsigned long go_after;       /* 17 for a go right after the end of one */
+    unsigned long during[KINDS];  /* 16 for another call before its step */
+    unsigned long early[KINDS];   /* 16 by the call that ran; under GO while idle */
+    unsigned long for_cell;       /* 15 for its cell alone */
+    unsigned long for_spare;      /* 15 for its sixth byte alone */
+    unsigned long for_value;      /* 15 for its value alone */
+};
+
 struct coverage {
     /* accepted entries by the phase they found their task in */
     unsigned long phase[PHASES];
@@ -15,6 +33,8 @@ struct coverage {
     /* refusal given, and another fault that the same bytes had */
     unsigned long entry_order[NUMBERS][NUMBERS];
     unsigned long setup_order[NUMBERS][NUMBERS];
+    /* the same as entry_order, of validates alone */
+    unsigned long validate_order[NUMBERS][NUMBERS];
     /* cut entries by the bytes that were left */
     unsigned long cut[ENTRY_BYTES];
     /* setups cut in the head by their length, and cut in the values */
@@ -36,6 +56,7 @@ struct coverage {
     unsigned long raised_free;      /* L2 on a node with count 0 */
     unsigned long lost_equal;       /* stores lost to an equal value */
     unsigned long most_busy;        /* tasks in a call or linked at once */
+    struct validates validates;
 };
 
 /* Walks one input and adds what it meets. */

@@ -86,6 +86,7 @@ struct style {
     enum crowd crowd;
     uint8_t hot;           /* loads that go for cell 0 */
     uint8_t stores;        /* links that end in a store, not a release */
+    uint8_t validates;     /* moves of a linked task that leave it linked */
     uint8_t stay;          /* entries that stay with the task that moved last */
     uint8_t park;          /* tasks parked on coming into one of the phases */
     unsigned park_phases;
@@ -94,29 +95,34 @@ struct style {
 
 static const struct style STYLES[] = {
     /* contention: everybody on cell 0, one step each in any order */
-    { FEW_CELLS, 100, 90, 0, 0, 0, 0 },
+    { FEW_CELLS, 100, 90, 15, 0, 0, 0, 0 },
     /* the same with some links given up, so counts fall in other ways */
-    { FEW_CELLS, 90, 50, 20, 0, 0, 0 },
+    { FEW_CELLS, 90, 50, 20, 20, 0, 0, 0 },
     /* stalled loads: the pointer is read, then nothing for a long time */
-    { FEW_CELLS, 100, 95, 30, 60, AT(L2) | AT(L3), 300 },
+    { FEW_CELLS, 100, 95, 10, 30, 60, AT(L2) | AT(L3), 300 },
     /* stalled between check and copy, or holding a link for long */
-    { FEW_CELLS, 95, 85, 40, 50, AT(L4) | AT(LINKED), 200 },
+    { FEW_CELLS, 95, 85, 20, 40, 50, AT(L4) | AT(LINKED), 200 },
     /* stalled stores: the swap comes when the cell has long moved on */
-    { FEW_CELLS, 100, 100, 40, 60, AT(S1) | AT(S2) | AT(S7), 150 },
+    { FEW_CELLS, 100, 100, 10, 40, 60, AT(S1) | AT(S2) | AT(S7), 150 },
     /* stalled between swap and end, old nodes pile up */
-    { FEW_CELLS, 100, 100, 30, 50, AT(S3) | AT(S4) | AT(S5), 150 },
+    { FEW_CELLS, 100, 100, 10, 30, 50, AT(S3) | AT(S4) | AT(S5), 150 },
     /* several tasks looking for a free node at the same time */
-    { FEW_CELLS, 100, 100, 10, 50, AT(S6) | AT(LINKED), 60 },
+    { FEW_CELLS, 100, 100, 10, 10, 50, AT(S6) | AT(LINKED), 60 },
     /* long probing: the first free node is many cells away */
-    { MANY_CELLS, 100, 95, 50, 30, AT(LINKED) | AT(S2), 120 },
-    { MANY_CELLS, 80, 95, 85, 40, AT(LINKED) | AT(L3), 200 },
+    { MANY_CELLS, 100, 95, 10, 50, 30, AT(LINKED) | AT(S2), 120 },
+    { MANY_CELLS, 80, 95, 10, 85, 40, AT(LINKED) | AT(L3), 200 },
     /* bursts: one task runs many steps, then another */
-    { ANY_CELLS, 60, 85, 92, 0, 0, 0 },
-    { FEW_CELLS, 100, 95, 85, 20, AT(L2) | AT(L3) | AT(L4) | AT(LINKED), 100 },
+    { ANY_CELLS, 60, 85, 15, 92, 0, 0, 0 },
+    { FEW_CELLS, 100, 95, 15, 85, 20, AT(L2) | AT(L3) | AT(L4) | AT(LINKED), 100 },
     /* releases more than stores */
-    { ANY_CELLS, 70, 20, 50, 10, AT(R1) | AT(LINKED), 40 },
+    { ANY_CELLS, 70, 20, 20, 50, 10, AT(R1) | AT(LINKED), 40 },
     /* all over the cells */
-    { ANY_CELLS, 0, 80, 40, 10, AT(L2) | AT(S2) | AT(S6), 80 },
+    { ANY_CELLS, 0, 80, 20, 40, 10, AT(L2) | AT(S2) | AT(S6), 80 },
+    /* links kept long and asked about again and again while others store */
+    { FEW_CELLS, 90, 85, 60, 30, 50, AT(LINKED), 80 },
+    /* stalled validates: the cell moves on between the beginning and the step */
+    { FEW_CELLS, 100, 90, 50, 30, 60, AT(V1) | AT(LINKED), 120 },
+    { MANY_CELLS, 50, 75, 50, 60, 40, AT(V1) | AT(S2), 60 },
 };
 
 enum { STYLE_COUNT = sizeof STYLES / sizeof STYLES[0] };
@@ -131,6 +137,7 @@ static struct style pick_style(struct dice *d)
     s.crowd = (enum crowd)below(d, CROWDS);
     s.hot = (uint8_t)below(d, 101);
     s.stores = (uint8_t)below(d, 101);
+    s.validates = (uint8_t)below(d, 81);
     s.stay = (uint8_t)below(d, 96);
     s.park = (uint8_t)below(d, 80);
     s.park_phases = (unsigned)below(d, 1u << PHASES) & ~(unsigned)AT(IDLE);
@@ -257,8 +264,8 @@ static void move_store(struct maker *k, uint8_t task)
               pick_value(&k->dice, k->values));
 }
 
-/* The one kind of entry that the task can make now. */
-static void move(struct maker *k, uint8_t task)
+/* A move towards the end of the task's call and link. */
+static void move_on(struct maker *k, uint8_t task)
 {
     uint8_t phase = k->guide.task[task].phase;
 
@@ -270,6 +277,15 @@ static void move(struct maker *k, uint8_t task)
         move_store(k, task);
     else
         put_entry(k, task, RELEASE, 0, 0);
+}
+
+/* Any move that the task can make now. */
+static void move(struct maker *k, uint8_t task)
+{
+    if (k->guide.task[task].phase == LINKED && chance(&k->dice, k->style.validates))
+        put_entry(k, task, VALIDATE, 0, 0);
+    else
+        move_on(k, task);
 }
 
 static uint8_t pick_task(struct maker *k)
@@ -303,11 +319,30 @@ static void play(struct maker *k, unsigned entries)
     }
 }
 
-/* One task alone until it is idle or linked. */
+/* One task alone until it is idle or linked; no new validate holds it up. */
 static void run_alone(struct maker *k, uint8_t task, uint8_t until)
 {
     while (k->guide.task[task].phase != until)
-        move(k, task);
+        move_on(k, task);
+}
+
+/* Leaves the task in a call of the kind, not at its end; idle for GO. */
+static void stop_in(struct maker *k, uint8_t task, enum kind call)
+{
+    unsigned steps = 0;
+
+    run_alone(k, task, call == GO || call == LOAD ? IDLE : LINKED);
+    if (call == LOAD) {
+        put_entry(k, task, LOAD, pick_cell(k), 0);
+        steps = below(&k->dice, 4); /* the fourth would end it */
+    } else if (call == STORE) {
+        move_store(k, task);
+        steps = below(&k->dice, 3); /* the third would end one that is lost */
+    } else if (call != GO) {
+        put_entry(k, task, (uint8_t)call, 0, 0);
+    }
+    while (steps-- > 0)
+        put_entry(k, task, GO, 0, 0);
 }
 
 static unsigned pick_length(struct dice *d)
@@ -398,7 +433,7 @@ static void break_zero(struct dice *d, uint8_t *entry)
 
     if (kind != STORE && chance(d, 40))
         entry[6 + below(d, 4)] = not_zero(d); /* any one byte of the value */
-    else if ((kind == GO || kind == RELEASE) && chance(d, 50))
+    else if ((kind == GO || kind == RELEASE || kind == VALIDATE) && chance(d, 50))
         entry[4] = not_zero(d); /* a cell where none is named */
     else
         entry[5] = not_zero(d);
@@ -424,6 +459,10 @@ static void wrong_time(struct maker *k, uint8_t *entry)
 
     if (pick < 3) { /* go with no call to go on with */
         run_alone(k, task, chance(d, 50) ? IDLE : LINKED);
+        if (t->phase == LINKED && chance(d, 50)) { /* straight after a validate */
+            put_entry(k, task, VALIDATE, 0, 0);
+            put_entry(k, task, GO, 0, 0);
+        }
         make_entry(entry, task, GO, 0, 0);
     } else if (pick < 5 && k->sizes.cells > 1) { /* store on the wrong cell */
         run_alone(k, task, LINKED);
@@ -435,9 +474,9 @@ static void wrong_time(struct maker *k, uint8_t *entry)
     } else { /* store or release without a link */
         if (t->phase == LINKED)
             run_alone(k, task, IDLE);
-        if (chance(d, 35))
+        if (chance(d, 30))
             make_entry(entry, task, RELEASE, 0, 0);
-        else if (chance(d, 50))
+        else if (chance(d, 40))
             make_entry(entry, task, STORE, t->cell, value);
         else
             make_entry(entry, task, STORE, other_cell(k, t->cell), value);
@@ -453,10 +492,10 @@ static void right_time(struct maker *k, uint8_t *entry)
         make_entry(entry, task, LOAD, pick_cell(k), 0);
     else if (t->phase != LINKED)
         make_entry(entry, task, GO, 0, 0);
-    else if (chance(&k->dice, 50))
+    else if (chance(&k->dice, 40))
         make_entry(entry, task, STORE, t->cell, pick_value(&k->dice, k->values));
     else
-        make_entry(entry, task, RELEASE, 0, 0);
+        make_entry(entry, task, chance(&k->dice, 50) ? RELEASE : VALIDATE, 0, 0);
 }
 
 /* One more fault in one field, whatever else is wrong with the entry. */
@@ -487,9 +526,8 @@ static void wrong_field(struct maker *k, uint8_t *entry)
 }
 
 /* One fault or several at once: the order of the refusals must show. */
-static void put_refused(struct maker *k)
+static void wrong_entry(struct maker *k, uint8_t *entry)
 {
-    uint8_t entry[ENTRY_BYTES];
     unsigned fields = chance(&k->dice, 45) ? 0 : between(&k->dice, 1, 2);
 
     if (chance(&k->dice, 65)) {
@@ -502,6 +540,52 @@ static void put_refused(struct maker *k)
         wrong_field(k, entry);
     if (chance(&k->dice, 10)) /* the zero byte comes in the middle of the order */
         entry[5] = not_zero(&k->dice);
+}
+
+/* The same for a validate, which the dice above seldom give. */
+static void wrong_validate(struct maker *k, uint8_t *entry)
+{
+    struct dice *d = &k->dice;
+    uint8_t task = (uint8_t)below(d, k->sizes.tasks);
+    bool early = chance(d, 75);
+    unsigned percent = chance(d, 50) ? 0 : 40; /* of a fault in each field */
+
+    if (!early)
+        run_alone(k, task, LINKED);
+    else if (k->guide.task[task].phase == LINKED || chance(d, 70))
+        stop_in(k, task, (enum kind)below(d, KINDS)); /* else where it stands */
+    make_entry(entry, task, VALIDATE, 0, 0);
+    if (!early || chance(d, percent))
+        break_zero(d, entry);
+    if (chance(d, percent))
+        entry[2] = too_big(d, k->sizes.tasks);
+    if (chance(d, percent))
+        wrong_mark(d, entry);
+}
+
+/* Another call on the same cell, before a validate has made its step. */
+static void call_in_validate(struct maker *k, uint8_t *entry)
+{
+    struct dice *d = &k->dice;
+    uint8_t task = (uint8_t)below(d, k->sizes.tasks);
+    uint8_t kind = (uint8_t)between(d, LOAD, RELEASE);
+
+    stop_in(k, task, VALIDATE);
+    make_entry(entry, task, kind, kind == RELEASE ? 0 : k->guide.task[task].cell,
+               kind == STORE ? pick_value(d, k->values) : 0);
+}
+
+static void put_refused(struct maker *k)
+{
+    uint8_t entry[ENTRY_BYTES];
+    unsigned pick = below(&k->dice, 100);
+
+    if (pick < 28)
+        wrong_validate(k, entry);
+    else if (pick < 35)
+        call_in_validate(k, entry);
+    else
+        wrong_entry(k, entry);
     put(&k->tape, entry, sizeof entry);
 }
 
@@ -757,9 +841,9 @@ size_t generate(uint64_t seed, uint8_t *out, size_t cap)
 
     unsigned pick = below(&k.dice, 100);
 
-    if (pick < 43) {
+    if (pick < 30) {
         good_schedule(&k);
-    } else if (pick < 44) {
+    } else if (pick < 31) {
         climbing_schedule(&k);
     } else if (pick < 74) {
         refused_schedule(&k);

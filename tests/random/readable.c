@@ -6,7 +6,7 @@ const char *phase_name(unsigned phase)
 {
     static const char *const names[PHASES] = {
         "idle", "L1", "L2", "L3", "L4", "L5", "linked",
-        "S1", "S2", "S3", "S4", "S5", "S6", "S7", "R1"
+        "S1", "S2", "S3", "S4", "S5", "S6", "S7", "R1", "V1"
     };
 
     return phase < PHASES ? names[phase] : "?";
@@ -42,6 +42,9 @@ static void print_call(FILE *out, const uint8_t *entry)
     case RELEASE:
         fputs("release", out);
         break;
+    case VALIDATE:
+        fputs("validate", out);
+        break;
     default:
         fprintf(out, "kind %u", entry[3]);
     }
@@ -59,6 +62,10 @@ static void print_outcome(FILE *out, const struct machine *m, struct answer a)
         fputs(": store lost", out);
     else if (a.number == RELEASED)
         fputs(": released", out);
+    else if (a.number == GOOD)
+        fputs(": good", out);
+    else if (a.number == GONE)
+        fputs(": gone", out);
     else if (a.met == L3 && now == L5)
         fputs(": turned back", out);
     else if (a.met == S2 && now == S3)

@@ -214,6 +214,10 @@ static unsigned step(struct machine *m, struct task *t, uint32_t *value)
             return DAMAGED;
         t->phase = IDLE;
         return RELEASED;
+
+    case V1: /* what S2 would find now; good or gone, the link stays */
+        t->phase = LINKED;
+        return *pointer == t->held ? GOOD : GONE;
     }
     return BAD_GO; /* idle and linked: there is no step to make */
 }
@@ -282,6 +286,14 @@ static unsigned begin_release(struct task *t)
     return MOVED;
 }
 
+static unsigned begin_validate(struct task *t)
+{
+    if (t->phase != LINKED)
+        return BAD_CALL;
+    t->phase = V1;
+    return MOVED;
+}
+
 struct answer bench_apply(struct machine *m, const uint8_t *entry, size_t left)
 {
     if (!in_range(m))
@@ -307,6 +319,8 @@ struct answer bench_apply(struct machine *m, const uint8_t *entry, size_t left)
         number = begin_store(t, cell, read32(entry + 6));
     else if (kind == RELEASE)
         number = begin_release(t);
+    else if (kind == VALIDATE)
+        number = begin_validate(t);
     else
         number = step(m, t, &value);
 
@@ -376,7 +390,7 @@ struct report bench_run(struct machine *m, const uint8_t *schedule,
 
 static bool holds_by_phase(uint8_t phase)
 {
-    return (phase >= L3 && phase <= S5) || phase == S7 || phase == R1;
+    return (phase >= L3 && phase <= S5) || (phase >= S7 && phase <= V1);
 }
 
 unsigned bench_holders(const struct task *list, size_t length, unsigned node,

@@ -1,5 +1,6 @@
 /*
- * The step bench of document 01, written a second time in plain C.
+ * The step bench of document 01, with the validate of document 02's item 1,
+ * written a second time in plain C.
  *
  * Written from the documents alone, so that a slip in the proved library and
  * a slip here are unlikely to be the same one.  No globals, no exit, nothing
@@ -36,10 +37,11 @@ enum phase {
     LINKED,
     S1, S2, S3, S4, S5, S6, S7,
     R1,
+    V1, /* validate's one step, which the documents know as phase 15 only */
     PHASES
 };
 
-enum kind { GO = 0, LOAD, STORE, RELEASE, KINDS };
+enum kind { GO = 0, LOAD, STORE, RELEASE, VALIDATE, KINDS };
 
 enum number {
     /* replies */
@@ -48,6 +50,8 @@ enum number {
     TOOK = 2,
     LOST = 3,
     RELEASED = 4,
+    GOOD = 5,
+    GONE = 6,
     /* refusals */
     BAD_SIZES = 11,
     BAD_TASK = 12,

@@ -1,7 +1,8 @@
 /*
  * Checks of the second program's functions where the program's bytes can't
  * reach: damaged machines, short reply buffers, the holders question, and the
- * machine after document 01's cases.  Prints what fails; exit status 1 then.
+ * machine after document 01's cases and after a validate.  Prints what fails;
+ * exit status 1 then.
  */
 #include "bench.h"
 
@@ -63,6 +64,11 @@ static bool zeros(const struct machine *m)
     return memcmp(m, &zero, sizeof zero) == 0;
 }
 
+static bool same(const struct machine *a, const struct machine *b)
+{
+    return memcmp(a, b, sizeof *a) == 0;
+}
+
 static void check_setups(void)
 {
     struct machine m = small();
@@ -118,13 +124,65 @@ static void check_case_12(void)
     CHECK(counts_are(&m, 1, 1, 1, 0, 0));
 }
 
+/* Task 0 validates: the number is due, and only the phase changes on the way. */
+static void check_validated(struct machine m, uint8_t number)
+{
+    struct machine before = m, begun = m;
+    struct answer a = apply(&m, 0, VALIDATE, 0);
+
+    begun.task[0].phase = V1;
+    CHECK(a.number == MOVED && a.task == 0 && a.value == 0);
+    CHECK(same(&m, &begun));
+    a = apply(&m, 0, GO, 0);
+    CHECK(a.number == number && a.task == 0 && a.value == 0);
+    CHECK(same(&m, &before));
+}
+
+static void check_validates(void)
+{
+    struct machine m = small();
+
+    call(&m, 0, LOAD, 0, 4);
+    check_validated(m, GOOD);
+    call(&m, 1, LOAD, 0, 4);
+    CHECK(call(&m, 1, STORE, 7, 8).number == TOOK); /* the value that was there */
+    CHECK(m.task[0].phase == LINKED && m.task[0].held == 0 && m.node_of[0] == 2);
+    check_validated(m, GONE);
+
+    /* numbers decide whatever else is wrong: no count is looked at */
+    m = small();
+    m.task[0].phase = LINKED;
+    m.task[0].held = 3; /* count 0 */
+    check_validated(m, GONE);
+    m.node_of[0] = 3;
+    m.count[3] = 3; /* P+1 */
+    check_validated(m, GOOD);
+}
+
+/* 16 in every phase but linked, and nothing changes. */
+static void check_early_validates(void)
+{
+    for (unsigned i = 0; i < PHASES; i++) {
+        struct machine m = small(), before;
+        struct answer a;
+
+        if (i == LINKED)
+            continue;
+        m.task[1].phase = (uint8_t)i;
+        before = m;
+        a = apply(&m, 1, VALIDATE, 0);
+        CHECK(a.number == BAD_CALL && a.task == 1 && a.value == 0);
+        CHECK(same(&m, &before));
+    }
+}
+
 static void check_refused(struct machine m, uint8_t number, uint8_t task)
 {
     struct machine before = m;
     struct answer a = apply(&m, 1, GO, 0);
 
     CHECK(a.number == number && a.task == task && a.value == 0);
-    CHECK(memcmp(&m, &before, sizeof m) == 0);
+    CHECK(same(&m, &before));
 }
 
 static void check_damage_by_range(void)
@@ -139,7 +197,7 @@ static void check_damage_by_range(void)
     m = small(); m.nodes = 129; check_refused(m, DAMAGED, 0);
     m = small(); m.node_of[0] = 5; check_refused(m, DAMAGED, 0);
     m = small(); m.count[4] = 4; check_refused(m, DAMAGED, 0);
-    m = small(); m.task[0].phase = 15; check_refused(m, DAMAGED, 0);
+    m = small(); m.task[0].phase = 16; check_refused(m, DAMAGED, 0);
     m = small(); m.task[1].cell = 1; check_refused(m, DAMAGED, 0);
     m = small(); m.task[0].held = 5; check_refused(m, DAMAGED, 0);
     m = small(); m.task[0].own = 5; check_refused(m, DAMAGED, 0);
@@ -149,6 +207,7 @@ static void check_damage_by_range(void)
     m = small();
     m.node_of[0] = 4;
     m.count[4] = 3;
+    m.task[0].phase = 15;
     m.task[1].held = m.task[1].own = m.task[1].cursor = 4;
     m.node_of[1] = m.count[5] = m.task[2].phase = 255;
     check_refused(m, BAD_GO, 1);
@@ -201,7 +260,7 @@ static void check_runs(void)
     CHECK(r.refusal == TOO_LONG && r.accepted == 0);
     r = bench_run(&m, schedule, 22, replies, 23); /* the cut entry counts */
     CHECK(r.refusal == NO_ROOM && r.accepted == 0 && r.loads == 0);
-    CHECK(memcmp(&m, &fresh, sizeof m) == 0);
+    CHECK(same(&m, &fresh));
     CHECK(memcmp(replies, untouched, sizeof replies) == 0);
 
     r = bench_run(&m, schedule, 22, replies, 24);
@@ -227,12 +286,14 @@ static void check_holders(void)
     unsigned holders = 99;
 
     memset(list, 0, sizeof list);
-    for (unsigned i = 0; i < PHASES; i++) {
+    for (unsigned i = 0; i <= MAX_TASKS; i++) {
         list[i].phase = (uint8_t)i;
         list[i].held = 127;
     }
     /* all but idle, L1, L2 and S6 */
-    CHECK(bench_holders(list, MAX_TASKS, 127, &holders) == 0 && holders == 11);
+    CHECK(bench_holders(list, MAX_TASKS, 127, &holders) == 0 && holders == 12);
+    CHECK(bench_holders(list + 15, 1, 127, &holders) == 0 && holders == 1);
+    CHECK(bench_holders(list + 16, 1, 127, &holders) == 0 && holders == 0);
     CHECK(bench_holders(list, MAX_TASKS, 126, &holders) == 0 && holders == 0);
     CHECK(bench_holders(list, 4, 127, &holders) == 0 && holders == 1);
     holders = 99;
@@ -247,6 +308,8 @@ int main(void)
     check_case_9();
     check_case_10();
     check_case_12();
+    check_validates();
+    check_early_validates();
     check_damage_by_range();
     check_damage_by_step();
     check_runs();
