@@ -46,8 +46,8 @@ size_t kemilunda_setup_bytes(const uint8_t *input, size_t input_size);
  *    2  the store took
  *    3  the store is lost
  *    4  the link is released
- *    5  good: the cell has not been written since the task's load
- *    6  gone: it has; the link stays until a store or release ends it
+ *    5  good: no store to the cell took since the task's load
+ *    6  gone: one did; the link stays until a store or release ends it
  *
  * or the entry's refusal:
  *

@@ -1,4 +1,4 @@
--- Document 01's number and value for each case of an answer. (24 belongs to the holders question, in the crate tasks.)
+-- Number and value of each case of an answer, by documents 01 and 02. (24 belongs to the holders question, in the crate tasks.)
 use Prim.Native.Nat.{ℕ}
 use Rattle.answers.specs.Types.{Reply, Moved, Loaded, Took, Lost, Released, Good, Gone, Refusal, Sizes, NoTask, NoKind, NoCell, NotZero, NotNow, NoStep, OtherCell, WrongMark, TooShort, NoRoom, Damaged, TooLong, Answer, Replied, Refused}
 

@@ -1,4 +1,4 @@
-// What a setup, an entry and a run are answered with: document 01's replies and refusals, with their numbers and values.
+// What a setup, an entry and a run are answered with: replies and refusals, with the numbers and values that documents 01 and 02 give them.
 ghost use mathlib.Core.Path.{_≡_};
 ghost use Rattle.answers.specs.Numbers.{replyNumber, replyValue, refusalNumber, numberOf, valueOf};
 

@@ -1,4 +1,4 @@
--- The two readings of VL agree: a task is in S of a cell exactly where source 004's words hold, so figure 1's validate gives good exactly there.
+-- The two readings of VL agree: a task is in S of a cell exactly where source 004 has its link good, so figure 1's validate gives good exactly there.
 -- Assumes nothing.
 use Prim.Native.Nat.{ℕ, _+_, _<_}
 use native.Mathlib.Omega.{arith}
@@ -31,7 +31,7 @@ module _ (x p : ℕ) where
         | yes e ↦ leaves (rw (w, h, eq-eqb y x e) (omega arith)) (rw (w, h, eq-eqb x y (sym e)))
         | no n ↦ none (rw w) (rw (w, h, ne-eqb y x n)) (rw w) (rw (w, h, ne-eqb x y (λ e. n (sym e))))
       ]
-  change-store a q y v w false h = none (rw w) (rw (w, h, and-false)) (rw w) (rw (w, h))
+  change-store a q y v w false h = none (rw w) (rw (w, h)) (rw w) (rw (w, h))
 
   change-act : (a : State) (q : ℕ) (s : Status) → a .status q ≡ s → Change a (acts q)
   change-act a q quiet w = none (rw w) (rw w) (rw w) (rw w)
@@ -112,7 +112,7 @@ module _ (x p : ℕ) where
       go (joins q l) = rw q (rw (l, eq-eqb x x refl, eq-eqb p p refl) refl)
       go (leaves n q) = absurd (omega arith)
 
-  -- p is in S[x] exactly where p loaded x and x was not written since
+  -- p is in S[x] exactly where p loaded x and no store to x took since
   pub in-set : (vals : ℕ → ℕ) (h : List Event) → member (afterAll (start vals) h) ≡ true → Unwritten x p (start vals) h
   in-set vals h w = go (since h (start vals) w)
     where
@@ -134,7 +134,7 @@ gone-false : (b : Bool) → cond b good gone ≡ gone → b ≡ false
 gone-false true q = let z : _≡_ {A = ℕ} 0 1 = cc in absurd (omega arith)
 gone-false false q = refl
 
--- so VL(x) of task p, after a history from the start, gives good exactly where x was not written since p's load, and gone elsewhere
+-- so VL(x) of task p, after a history from the start, gives good exactly where no store to x took since p's load, and gone elsewhere
 module _ (vals : ℕ → ℕ) (h : List Event) (x p : ℕ) where
   abbrev now : Bool
   now = afterAll (start vals) h .cells .member x p

@@ -1,5 +1,5 @@
--- Source 004's words for VL, said without the sets: true exactly where the cell was not written since this task's load. A cell is written where
--- a store to it takes. A task that has released the cell has given that load up: release is document 01's addition, source 004 has none.
+-- VL as source 004 has it, which knows no sets: a link is good until a store to its cell takes after the load that made it. Release is document 01's
+-- addition, and source 004 has none: a task that has released the cell has given that load up.
 use Prim.Native.Nat.{ℕ, _+_}
 use mathlib.Core.Path.{_≡_}
 use mathlib.Core.Bool.{Bool, true, false, _&&_}
@@ -24,7 +24,7 @@ taken gone = false
 -- a store to x that takes, by any task
 abbrev pub writes : ℕ → Sort
 writes x q (load y) r = false
-writes x q (store y v) r = eqb y x && taken r
+writes x q (store y v) r = taken r && eqb y x
 writes x q (release y) r = false
 writes x q (validate y) r = false
 

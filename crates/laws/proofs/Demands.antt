@@ -125,8 +125,8 @@ module _ (s : List ℕ) (used : ℕ) (ok : setupOf s .answer ≡ Ready used) (es
       → (us : List Event) × (eventsOf (applied (setupOf s .machine) es) e ≡ us ++ ends (getD e 2 0) x ∷ []) × Called (getD e 2 0) x first (past ++ us)
   answers-are-figure1s = answered s used ok es
 
-  -- a validate's step is answered good where its task is in S of its cell and gone where it is not; and that is, in source 004's words, where the
-  -- cell was not written since the task's load (Validate)
+  -- a validate's step is answered good where its task is in S of its cell and gone where it is not; and that is, as source 004 has it, where
+  -- no store to the cell took since the task's load (Validate)
   pub validate-tells : (e : List ℕ) → accepted (applyOf (applied (setupOf s .machine) es) e .answer) ≡ true → Asks (applied (setupOf s .machine) es) e 0 15
       → Validated (taskOf (applied (setupOf s .machine) es) e .cell .0) (getD e 2 0) first past (applyOf (applied (setupOf s .machine) es) e .answer)
   validate-tells = Validate.validate-tells s used ok es
@@ -150,8 +150,8 @@ pub reached-matches : {m : Machine} → Reached m
     → (r : Scheduled m) × Matches m (afterAll (start (valueGiven (r .setup))) (history pool (setupOf (r .setup) .machine) (r .entries)))
 reached-matches h = let r = scheduled h in (r, rw (r .reaches) at (matches (r .setup) (r .used) (r .ready) (r .entries)))
 
--- figure 1's validate asks the set, source 004's asks whether the cell was written since the task's load: after any history the two give the same
--- (figure1's Validate)
+-- figure 1's validate asks the set, source 004's asks whether a store to the cell took since the task's load: after any history the two give
+-- the same (figure1's Validate)
 module _ (vals : ℕ → ℕ) (h : List Event) (x p : ℕ) where
   abbrev pub told : Result
   told = figure1 (afterAll (start vals) h .cells) p (validate x) .result

@@ -199,12 +199,15 @@ module _ (m : Machine) (K : Kept m) (p : TaskNo) (hp : p .0 < m .p) (a : State) 
   -- a validate at its one step, which also ends it: the cells stay, and p's part in S[x] is what the comparison found
   validate-acts : (e : t ≡ at 15) (b : Bool) → eqb (node x) (t .held .0) ≡ b
       → Follows a (acts (p .0) ∷ ends (p .0) (cond b good gone) ∷ []) × Matches (turned (at 6) (m .counts)) (afterAll a (acts (p .0) ∷ ends (p .0) (cond b good gone) ∷ []))
-  validate-acts e b q = rw (stand 15 e, member-is 15 b refl e q) (
+  validate-acts e b q = rw (begun, member-is 15 b refl e q) (
     (tt, (put-same (a .status) (p .0) given, tt)),
     still 15 (at 6) (m .counts) (put now (p .0) quiet) e (λ y. refl) (sym (put-same now (p .0) quiet))
         (λ q n. put-other now (p .0) quiet q n ∙ put-other (a .status) (p .0) given q n),
   )
     where
+      begun : a .status (p .0) ≡ asked (validate x)
+      begun = stand 15 e
+
       given : Status
       given = acted (cond b good gone)
 

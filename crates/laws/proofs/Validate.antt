@@ -1,4 +1,4 @@
--- A validate's step is answered in source 004's words: the sets that the record matches are where figure 1's and those words agree. Assumes nothing.
+-- A validate's step is answered as figure 1 and source 004 have it: the record matches the sets, and on the sets the two agree. Assumes nothing.
 use Prim.Native.Nat.{ℕ, suc}
 use native.Mathlib.Omega.{arith}
 use mathlib.Core.Path.{_≡_, refl, sym, ap, subst, _∙_}

@@ -1,4 +1,7 @@
 -- `validate_step`: row 15 of the table, by what the comparison found. Assumes nothing.
+use mathlib.Core.Path.{_≡_}
+use mathlib.Core.Bool.{true, false}
+use lib.Dec.{eqb}
 use borrow.Author.Needs.{needs}
 use Rattle.steps.proofs.validate_step.Statement.{statement}
 use Rattle.steps.proofs.validate_step.Tie as tie
@@ -16,10 +19,16 @@ done-requires-2 : tie.Need-done-requires-2
 done-requires-2 c κs = search needs
 
 returns : tie.Need-returns
-returns c = rw (c .done .ensures, c .before .onward .ensures, c .before .before .if1 .taken)
+returns c =
+    let a = c .before .before .before .before .before .args in
+    let good : eqb (a .t .held .0) (a .s .here .0) ≡ true = c .before .before .if1 .taken in
+    rw (c .done .ensures, c .before .onward .ensures, good)
 
 returns-2 : tie.Need-returns-2
-returns-2 c = rw (c .done2 .ensures, c .before .onward2 .ensures, c .before .before .if1 .left)
+returns-2 c =
+    let a = c .before .before .before .before .before .args in
+    let gone : eqb (a .t .held .0) (a .s .here .0) ≡ false = c .before .before .if1 .left in
+    rw (c .done2 .ensures, c .before .onward2 .ensures, gone)
 
 pub validate-step-spec : {M : Type 1} → statement M
 validate-step-spec =
