@@ -278,19 +278,12 @@ static unsigned begin_store(struct task *t, uint8_t cell, uint32_t value)
     return MOVED;
 }
 
-static unsigned begin_release(struct task *t)
+/* Release and validate: the entry names no cell, so only the link is asked for. */
+static unsigned begin_on_link(struct task *t, enum phase first)
 {
     if (t->phase != LINKED)
         return BAD_CALL;
-    t->phase = R1;
-    return MOVED;
-}
-
-static unsigned begin_validate(struct task *t)
-{
-    if (t->phase != LINKED)
-        return BAD_CALL;
-    t->phase = V1;
+    t->phase = (uint8_t)first;
     return MOVED;
 }
 
@@ -318,9 +311,9 @@ struct answer bench_apply(struct machine *m, const uint8_t *entry, size_t left)
     else if (kind == STORE)
         number = begin_store(t, cell, read32(entry + 6));
     else if (kind == RELEASE)
-        number = begin_release(t);
+        number = begin_on_link(t, R1);
     else if (kind == VALIDATE)
-        number = begin_validate(t);
+        number = begin_on_link(t, V1);
     else
         number = step(m, t, &value);
 
