@@ -52,14 +52,15 @@ size_t kemilunda_setup_bytes(const uint8_t *input, size_t input_size);
  * or the entry's refusal:
  *
  *   12  no such task
- *   13  kind above 4
- *   14  load or store of a cell that is not there
- *   15  a byte that must be zero is not
- *   16  load while not idle; store, release or validate while not linked
- *   17  go while idle or linked
- *   18  store to a cell other than the linked one
- *   19  wrong mark
- *   20  fewer than 10 bytes left
+ *   13  no such kind
+ *   14  no such cell, in a load or store
+ *   15  one of the zeros above is something else
+ *   16  the call can't begin now: a load wants an idle task, the others one
+ *       that is linked
+ *   17  the task has no step to make, being idle or linked
+ *   18  the store names a cell that the task is not linked to
+ *   19  the first two bytes are not 45 4E
+ *   20  the last entry is cut
  *
  * 22, a damaged machine (a phase above 15 is damage, for one), is never given
  * here: every run starts from a fresh machine, and no step damages one.

@@ -1,7 +1,8 @@
 /*
  * What a C program has to do to use the proved step bench: one header, one
  * archive, buffers of its own.  Prints document 01's case 3 from its replies,
- * and what becomes of a setup and of a reply buffer that are refused.
+ * what becomes of a setup and of a reply buffer that are refused, and what a
+ * validate in place of the store finds.
  */
 #include <kemilunda.h>
 #include <stdio.h>
@@ -12,6 +13,9 @@ enum {
     REPLY = 8,
     ROOM = REPLY * ENTRIES,
     POOL = 4, /* where the size of the pool stands in a setup */
+    STORE = 60, /* where the store's entry begins */
+    KIND = 3,
+    VALUE = 6,
     UNTOUCHED = 0xAA
 };
 
@@ -95,6 +99,16 @@ int main(void)
            (unsigned long)kemilunda_run(input, sizeof input, replies, ROOM - 1,
                                         numbers));
     printf("%zu bytes of replies\n", bytes_touched(replies));
+    print_numbers(numbers);
+
+    /* good at its first go; at the second there is no step to make */
+    input[STORE + KIND] = 4;
+    input[STORE + VALUE] = 0;
+    printf("validate: run %lu\n",
+           (unsigned long)kemilunda_run(input, sizeof input, replies,
+                                        sizeof replies, numbers));
+    for (size_t i = 5; i < 8; i++)
+        print_reply(replies + REPLY * i);
     print_numbers(numbers);
     return 0;
 }

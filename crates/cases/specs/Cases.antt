@@ -70,7 +70,9 @@ cases =
     ∷ validates 0 6 ++ counts (3 ∷ 1 ∷ 1 ∷ 0 ∷ 0 ∷ [])
     ∷ gives (store 0 0 8) 0 0 0 ∷ moves 0 2 ++ gives (go 0) 3 0 0 ∷ counts (2 ∷ 1 ∷ 1 ∷ 0 ∷ 0 ∷ []) ∷ []) ∷
     -- a stale link is released as any other
-    enters mended small (loads 0 0 7 ++ loads 1 0 7 ++ gives (store 1 0 9) 0 1 0 ∷ moves 1 7 ++ gives (go 1) 2 1 0 ∷ validates 0 6 ++ gives (release 0) 0 0 0 ∷ gives (go 0) 4 0 0 ∷ []) ∷
+    enters mended small
+    (loads 0 0 7 ++ loads 1 0 7 ++ gives (store 1 0 9) 0 1 0 ∷ moves 1 7 ++ gives (go 1) 2 1 0
+    ∷ validates 0 6 ++ gives (release 0) 0 0 0 ∷ gives (go 0) 4 0 0 ∷ []) ∷
     -- validate is refused while idle and while a load runs
     enters mended small (gives (validate 0) 16 0 0 ∷ gives (load 0 0) 0 0 0 ∷ gives (validate 0) 16 0 0 ∷ []) ∷
     -- while a validate runs no call can begin; once it has ended there is no step to make

@@ -1,1 +1,1 @@
-// No code here: document 01's schedules by hand, as rows of one table.
+// No code here: schedules worked out by hand, as rows of one table.

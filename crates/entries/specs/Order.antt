@@ -25,8 +25,8 @@ storeOf t x y =
     (begins t (Store y)))
 
 -- a release and a validate start where the task is linked
-unfoldable pub linkedOf : Task → Call → Effect
-linkedOf t c =
+unfoldable pub linkedCallOf : Task → Call → Effect
+linkedCallOf t c =
     cond (not (eqb (t .phase) 6)) (Refuses NotNow)  -- 16
     (begins t c)
 
@@ -36,8 +36,8 @@ callOf e t s =
     cond (eqb (e .kind) 0) (effectOf t s)
     (cond (eqb (e .kind) 1) (loadOf t (e .cell))
     (cond (eqb (e .kind) 2) (storeOf t (e .cell) (e .value))
-    (cond (eqb (e .kind) 3) (linkedOf t Release)
-    (linkedOf t Validate))))
+    (cond (eqb (e .kind) 3) (linkedCallOf t Release)
+    (linkedCallOf t Validate))))
 
 -- in a machine of n cells and p tasks
 unfoldable pub orderOf : ℕ → ℕ → Entry → Task → Seen → Effect

@@ -11,7 +11,7 @@ use tasks::Task;
 use tasks::TaskNo;
 ghost use mathlib.Core.Path.{_≡_};
 ghost use Rattle.entries.specs.Entry.{entryOf, nonzero, outside};
-ghost use Rattle.entries.specs.Order.{begins, loadOf, storeOf, linkedOf, callOf, orderOf};
+ghost use Rattle.entries.specs.Order.{begins, loadOf, storeOf, linkedCallOf, callOf, orderOf};
 
 pub struct Entry {
     pub task: TaskNo,
@@ -116,7 +116,7 @@ fn store(t: Task, x: CellNo, y: u32) -> Effect
 
 // A release or a validate: a call on the cell that the task is linked to.
 fn linked_call(t: Task, c: Call) -> Effect
-    ensures { λ r. ⌜ r ≡ linkedOf t c ⌝ }
+    ensures { λ r. ⌜ r ≡ linkedCallOf t c ⌝ }
 {
     if t.phase != 6 {
         return Effect::Refuses(Refusal::NotNow);

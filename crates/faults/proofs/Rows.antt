@@ -1,4 +1,4 @@
--- A bench by rows has no fault of its own: by document 01's rows it is the true one, on every record and all bytes. Assumes nothing.
+-- A bench by rows has no fault of its own: by the true rows it is the true one, on every record and all bytes. Assumes nothing.
 use Prim.Native.Nat.{ℕ}
 use mathlib.Core.Path.{_≡_, refl, sym, _∙_}
 use mathlib.Core.Bool.{true}
@@ -25,7 +25,7 @@ use Rattle.faults.specs.Benches.{asWritten, table, stepBy, goes, readBy,
 abbrev obeyed : Machine → Entry → Applied
 obeyed m e = let t = taskIn (m .tasks) (e .task) in carriedOf m (e .task) (orderOf (m .n) (m .p) e t (seenOf m t))
 
--- a go by document 01's rows is that
+-- a go by the true rows is that
 step-own : (m : Machine) (e : Entry) → goes m e ≡ true → stepBy table m e ≡ obeyed m e
 unfolding table orderOf callOf effectOf outside
 step-own m e h =

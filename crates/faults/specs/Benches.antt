@@ -1,4 +1,4 @@
--- Step benches over the same record and the same bytes: the mended table of document 01, and four tables with a fault. Only steps differ:
+-- Step benches over the same record and the same bytes: the true table, and four tables with a fault. Only steps differ:
 -- setup, starting a call and all that is refused before a step are the true ones.
 use Prim.Native.Nat.{ℕ}
 use mathlib.Core.Bool.{Bool, cond, not, _&&_}
@@ -18,7 +18,7 @@ use Rattle.entries.specs.declared.Entry.{Entry}
 use Rattle.entries.specs.declared.EntryRead.{EntryRead}
 use Rattle.entries.specs.declared.EntryRead.the-variants.{Whole, Refused as Unread}
 use Rattle.entries.specs.Entry.{entryOf, nonzero, outside}
-use Rattle.entries.specs.Order.{loadOf, storeOf, linkedOf, callOf, orderOf}
+use Rattle.entries.specs.Order.{loadOf, storeOf, linkedCallOf, callOf, orderOf}
 use Rattle.cells.specs.declared.Machine.{Machine}
 use Rattle.cells.specs.declared.Applied.{Applied}
 use Rattle.cells.specs.Machine.{seenOf, carriedOf, inRange}
@@ -30,11 +30,11 @@ use Rattle.laws.specs.Acts.{checked}
 abbrev pub Row : Type 0
 Row = Machine → Task → Effect
 
--- a row of document 01's table
+-- a row of the true table
 abbrev pub asWritten : TableRow → Row
 asWritten r m t = r t (seenOf m t)
 
--- document 01's table, phases 0 to 15
+-- the true table, phases 0 to 15
 unfoldable pub table : List Row
 unfolding rows
 table = map asWritten rows
@@ -60,7 +60,7 @@ pub record Bench : Type 0 where
   pub apply : Machine → List ℕ → Applied
   pub passes : ℕ → ℕ → Bool
 
--- document 01's mended table
+-- the true table, as document 01 mended it
 unfoldable pub mended : Bench
 mended = record { apply = applyOf; passes = checked }
 
@@ -120,5 +120,5 @@ validating = record { apply = applyBy (set table 15 v1ByValue); passes = checked
 
 -- for `unfolding` lines: all that a setup and an entry compute with, and the five benches
 unfoldable pub computing : Unit {0}
-unfolding every fillTo marked wordAt taskOk rows effectOf after raisedOf loweredOf sizesOk entryOf nonzero outside loadOf storeOf linkedOf callOf orderOf carriedOf inRange judgedOf decisionOf applyOf freshOf setupOf mended printed rereading comparing validating
+unfolding every fillTo marked wordAt taskOk rows effectOf after raisedOf loweredOf sizesOk entryOf nonzero outside loadOf storeOf linkedCallOf callOf orderOf carriedOf inRange judgedOf decisionOf applyOf freshOf setupOf mended printed rereading comparing validating
 computing = tt

@@ -1,1 +1,1 @@
-// No code here: three faults of the table, each with the schedule that breaks figure 1.
+// No code here: four faults of the table, each with the schedule that breaks figure 1.

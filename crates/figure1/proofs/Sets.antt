@@ -1,5 +1,6 @@
--- Figure 1's calls, in the words of its text: who is in which set after a call, and what a store then gives. Nothing rests on these theorems:
--- they check the definitions in specs/Figure1, for whoever reads those beside figure 1, and two must-fail edits are refused here. Assumes nothing.
+-- Figure 1's calls in the words of its text, and validate: who is in which set after a call, and what a store then gives. Nothing but proofs/Validate
+-- rests on these theorems: they check the definitions in specs/Figure1, for whoever reads those beside figure 1, and three must-fail edits are
+-- refused here. Assumes nothing.
 use Prim.Native.Nat.{ℕ}
 use mathlib.Core.Path.{_≡_, refl, ap}
 use mathlib.Core.Bool.{Bool, true, false, cond}

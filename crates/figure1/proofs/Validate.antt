@@ -9,10 +9,11 @@ use mathlib.Core.List.{List, [], _∷_}
 use mathlib.Core.Logic.{_≢_, _⊎_, inl, inr}
 use borrow.Author.Tests.{eq-eqb, ne-eqb}
 use Rattle.tallies.specs.Tally.{bit}
-use Rattle.figure1.specs.Figure1.{load, store, release, validate, Result, good, gone, figure1}
+use Rattle.figure1.specs.Figure1.{load, store, release, validate, Result, took, lost, good, gone}
 use Rattle.figure1.specs.Histories.{Status, quiet, asked, acted, State, Event, begins, acts, ends, after, afterAll, start}
-use Rattle.figure1.specs.Validate.{writes, loads, releases, eventOf, actsOf, Unwritten}
+use Rattle.figure1.specs.Validate.{given, writes, loads, releases, isEvent, countActs, Unwritten}
 use Rattle.figure1.proofs.Lift.{after-append}
+use Rattle.figure1.proofs.Sets.{validate-foretells}
 
 module _ (x p : ℕ) where
   abbrev member : State → Bool
@@ -21,9 +22,9 @@ module _ (x p : ℕ) where
   -- an event is of none of the three sorts, and p is in S[x] after it as before; or it is p's load of x; or x is written or p releases it, and p
   -- is not in S[x] after it
   data Change (a : State) (e : Event) : Type 0 where
-    none : eventOf (loads x p) a e ≡ false → eventOf (writes x) a e ≡ false → eventOf (releases x p) a e ≡ false → member (after a e) ≡ member a → Change a e
+    none : isEvent (loads x p) a e ≡ false → isEvent (writes x) a e ≡ false → isEvent (releases x p) a e ≡ false → member (after a e) ≡ member a → Change a e
     joins : e ≡ acts p → a .status p ≡ asked (load x) → Change a e
-    leaves : 0 < bit (eventOf (writes x) a e) + bit (eventOf (releases x p) a e) → member (after a e) ≡ false → Change a e
+    leaves : 0 < bit (isEvent (writes x) a e) + bit (isEvent (releases x p) a e) → member (after a e) ≡ false → Change a e
 
   change-store : (a : State) (q y v : ℕ) → a .status q ≡ asked (store y v) → (b : Bool) → a .cells .member y q ≡ b → Change a (acts q)
   change-store a q y v w true h =
@@ -62,16 +63,17 @@ module _ (x p : ℕ) where
 
   -- in h x is not written, and p neither loads nor releases it
   record Still (a : State) (h : List Event) : Type 0 where
-    unloaded : actsOf (loads x p) a h ≡ 0
-    unwritten : actsOf (writes x) a h ≡ 0
-    unreleased : actsOf (releases x p) a h ≡ 0
+    unloaded : countActs (loads x p) a h ≡ 0
+    unwritten : countActs (writes x) a h ≡ 0
+    unreleased : countActs (releases x p) a h ≡ 0
 
-  -- whoever is in S[x] then is in it before, or joined on the way and stayed
+  -- whoever is in S[x] at the end was in it all along, or joined on the way and stayed
   since : (h : List Event) (a : State) → member (afterAll a h) ≡ true → Unwritten x p a h ⊎ ((member a ≡ true) × Still a h)
   since [] a w = inr (w, record { unloaded = refl; unwritten = refl; unreleased = refl })
   since (e ∷ h) a w = go (since h (after a e) w) (change a e)
     where
-      go : Unwritten x p (after a e) h ⊎ ((member (after a e) ≡ true) × Still (after a e) h) → Change a e → Unwritten x p a (e ∷ h) ⊎ ((member a ≡ true) × Still a (e ∷ h))
+      go : Unwritten x p (after a e) h ⊎ ((member (after a e) ≡ true) × Still (after a e) h) → Change a e
+          → Unwritten x p a (e ∷ h) ⊎ ((member a ≡ true) × Still a (e ∷ h))
       go (inl u) c =
           inl (record {
             earlier = e ∷ u .earlier;
@@ -103,7 +105,7 @@ module _ (x p : ℕ) where
       go (inr (k, s)) (leaves n q) = absurd (false≢true (sym q ∙ k))
 
   -- whoever is in S[x] stays in it while x is not written and p does not release it
-  stays : (h : List Event) (a : State) → actsOf (writes x) a h ≡ 0 → actsOf (releases x p) a h ≡ 0 → member a ≡ true → member (afterAll a h) ≡ true
+  stays : (h : List Event) (a : State) → countActs (writes x) a h ≡ 0 → countActs (releases x p) a h ≡ 0 → member a ≡ true → member (afterAll a h) ≡ true
   stays [] a v r k = k
   stays (e ∷ h) a v r k = stays h (after a e) (omega arith) (omega arith) (go (change a e))
     where
@@ -112,7 +114,7 @@ module _ (x p : ℕ) where
       go (joins q l) = rw q (rw (l, eq-eqb x x refl, eq-eqb p p refl) refl)
       go (leaves n q) = absurd (omega arith)
 
-  -- p is in S[x] exactly where p loaded x and no store to x took since
+  -- p is in S[x] exactly where p loaded x, no store to x took since, and p has not released x
   pub in-set : (vals : ℕ → ℕ) (h : List Event) → member (afterAll (start vals) h) ≡ true → Unwritten x p (start vals) h
   in-set vals h w = go (since h (start vals) w)
     where
@@ -126,28 +128,48 @@ module _ (x p : ℕ) where
       rw (u .split, after-append a (u .earlier) (acts p ∷ u .since))
       (stays (u .since) b (u .unwritten) (u .unreleased) (rw (u .loaded, eq-eqb x x refl, eq-eqb p p refl) refl))
 
-good-true : (b : Bool) → cond b good gone ≡ good → b ≡ true
-good-true true q = refl
-good-true false q = let z : _≡_ {A = ℕ} 0 1 = cc in absurd (omega arith)
+-- of a choice by p's part in S[x] between two results, the first is given exactly where no store to x took since p's load (and p has not released x)
+module _ (vals : ℕ → ℕ) (h : List Event) (x p : ℕ) (r s : Result) (apart : r ≢ s) where
+  abbrev in-S : Bool
+  in-S = afterAll (start vals) h .cells .member x p
 
-gone-false : (b : Bool) → cond b good gone ≡ gone → b ≡ false
-gone-false true q = let z : _≡_ {A = ℕ} 0 1 = cc in absurd (omega arith)
-gone-false false q = refl
-
--- so VL(x) of task p, after a history from the start, gives good exactly where no store to x took since p's load, and gone elsewhere
-module _ (vals : ℕ → ℕ) (h : List Event) (x p : ℕ) where
-  abbrev now : Bool
-  now = afterAll (start vals) h .cells .member x p
-
-  abbrev pub told : Result
-  told = figure1 (afterAll (start vals) h .cells) p (validate x) .result
-
-  pub validate-good : (told ≡ good → Unwritten x p (start vals) h) × (Unwritten x p (start vals) h → told ≡ good)
-  validate-good = (λ q. in-set x p vals h (good-true now q), λ u. rw (unwritten-in x p (start vals) h u))
-
-  pub validate-gone : (told ≡ gone → Unwritten x p (start vals) h → ⊥) × ((Unwritten x p (start vals) h → ⊥) → told ≡ gone)
-  validate-gone = (λ q u. false≢true (sym (gone-false now q) ∙ unwritten-in x p (start vals) h u), λ n. go now refl n)
+  first-exactly : (cond in-S r s ≡ r → Unwritten x p (start vals) h) × (Unwritten x p (start vals) h → cond in-S r s ≡ r)
+  first-exactly = (λ q. in-set x p vals h (go in-S q), λ u. rw (unwritten-in x p (start vals) h u))
     where
-      go : (b : Bool) → now ≡ b → (Unwritten x p (start vals) h → ⊥) → cond b good gone ≡ gone
+      go : (b : Bool) → cond b r s ≡ r → b ≡ true
+      go true q = refl
+      go false q = absurd (apart (sym q))
+
+  second-exactly : (cond in-S r s ≡ s → Unwritten x p (start vals) h → ⊥) × ((Unwritten x p (start vals) h → ⊥) → cond in-S r s ≡ s)
+  second-exactly = (λ q u. apart (sym (first-exactly .1 u) ∙ q), λ n. go in-S refl n)
+    where
+      go : (b : Bool) → in-S ≡ b → (Unwritten x p (start vals) h → ⊥) → cond b r s ≡ s
       go true q n = absurd (n (in-set x p vals h q))
       go false q n = refl
+
+good≢gone : good ≢ gone
+good≢gone q = let z : _≡_ {A = ℕ} 0 1 = cc in omega arith
+
+took≢lost : took ≢ lost
+took≢lost q = let z : _≡_ {A = ℕ} 0 1 = cc in omega arith
+
+-- so after a history from the start VL(x) of task p gives good, and SC(x, y) takes, exactly there; elsewhere gone, and the store is lost
+module _ (vals : ℕ → ℕ) (h : List Event) (x p : ℕ) where
+  abbrev a : State
+  a = start vals
+
+  pub validate-good : (given a h p (validate x) ≡ good → Unwritten x p a h) × (Unwritten x p a h → given a h p (validate x) ≡ good)
+  validate-good = first-exactly vals h x p good gone good≢gone
+
+  pub validate-gone : (given a h p (validate x) ≡ gone → Unwritten x p a h → ⊥) × ((Unwritten x p a h → ⊥) → given a h p (validate x) ≡ gone)
+  validate-gone = second-exactly vals h x p good gone good≢gone
+
+  module _ (y : ℕ) where
+    told : given a h p (store x y) ≡ cond (afterAll a h .cells .member x p) took lost
+    told = validate-foretells (afterAll a h .cells) p x y (afterAll a h .cells .member x p) refl .1
+
+    pub store-took : (given a h p (store x y) ≡ took → Unwritten x p a h) × (Unwritten x p a h → given a h p (store x y) ≡ took)
+    store-took = let f = first-exactly vals h x p took lost took≢lost in (λ q. f .0 (sym told ∙ q), λ u. told ∙ f .1 u)
+
+    pub store-lost : (given a h p (store x y) ≡ lost → Unwritten x p a h → ⊥) × ((Unwritten x p a h → ⊥) → given a h p (store x y) ≡ lost)
+    store-lost = let f = second-exactly vals h x p took lost took≢lost in (λ q. f .0 (sym told ∙ q), λ n. told ∙ f .1 n)

@@ -37,7 +37,7 @@ nobody p = false
 -- by task p.  LL(x): p joins S[x], and the value of x is returned.
 -- SC(x, y): if p is in S[x] then S[x] is emptied, x becomes y, true is returned; else nothing changes and false is returned.
 -- release(x), document 01's addition: p leaves S[x].
--- VL(x), from source 004: nothing changes, and true is returned if p is in S[x], else false. (specs/Validate has source 004's own words.)
+-- VL(x), from source 004: nothing changes, and true is returned if p is in S[x], else false. (specs/Validate has it as source 004 does.)
 abbrev pub figure1 : Cells → ℕ → Call → Given
 figure1 c p (load x) = record { cells = record { val = c .val; member = put (c .member) x (put (c .member x) p true) }; result = value (c .val x) }
 figure1 c p (store x y) =

@@ -1,5 +1,5 @@
--- VL as source 004 has it, which knows no sets: a link is good until a store to its cell takes after the load that made it. Release is document 01's
--- addition, and source 004 has none: a task that has released the cell has given that load up.
+-- VL as source 004 has it, which asks for no set: a link is good until a store to its cell takes after the load that made it. Release is document
+-- 01's addition, and source 004 has none: a task that has released the cell has given that load up.
 use Prim.Native.Nat.{ℕ, _+_}
 use mathlib.Core.Path.{_≡_}
 use mathlib.Core.Bool.{Bool, true, false, _&&_}
@@ -9,7 +9,7 @@ use Rattle.tallies.specs.Tally.{bit}
 use Rattle.figure1.specs.Figure1.{Call, load, store, release, validate, Result, value, took, lost, released, good, gone, figure1}
 use Rattle.figure1.specs.Histories.{Status, quiet, asked, acted, State, Event, begins, acts, ends, after, afterAll}
 
--- a sort of act: which task, which call, what figure 1 gives it
+-- a sort of act: by which task, which call, what figure 1 gives it
 abbrev pub Sort : Type 0
 Sort = ℕ → Call → Result → Bool
 
@@ -41,20 +41,24 @@ releases x p q (store y v) r = false
 releases x p q (release y) r = eqb y x && eqb q p
 releases x p q (validate y) r = false
 
--- how many acts of a history are of a sort
-abbrev pub actOf : Sort → State → ℕ → Status → Bool
-actOf w a q quiet = false
-actOf w a q (asked c) = w q c (figure1 (a .cells) q c .result)
-actOf w a q (acted r) = false
+-- whether the act of task q, which stands at s, is of the sort; whether an event is such an act; how many of a history are
+abbrev pub isAct : Sort → State → ℕ → Status → Bool
+isAct w a q quiet = false
+isAct w a q (asked c) = w q c (figure1 (a .cells) q c .result)
+isAct w a q (acted r) = false
 
-abbrev pub eventOf : Sort → State → Event → Bool
-eventOf w a (begins q c) = false
-eventOf w a (acts q) = actOf w a q (a .status q)
-eventOf w a (ends q r) = false
+abbrev pub isEvent : Sort → State → Event → Bool
+isEvent w a (begins q c) = false
+isEvent w a (acts q) = isAct w a q (a .status q)
+isEvent w a (ends q r) = false
 
-abbrev pub actsOf : Sort → State → List Event → ℕ
-actsOf w a [] = 0
-actsOf w a (e ∷ es) = bit (eventOf w a e) + actsOf w (after a e) es
+abbrev pub countActs : Sort → State → List Event → ℕ
+countActs w a [] = 0
+countActs w a (e ∷ es) = bit (isEvent w a e) + countActs w (after a e) es
+
+-- what the call c would give task p after the history h from the state a
+abbrev pub given : State → List Event → ℕ → Call → Result
+given a h p c = figure1 (afterAll a h .cells) p c .result
 
 -- after the history h from the state a: task p's last load of x acted after `earlier`, and `since` x was not written and p has not released it
 pub record Unwritten (x p : ℕ) (a : State) (h : List Event) : Type 0 where
@@ -62,6 +66,6 @@ pub record Unwritten (x p : ℕ) (a : State) (h : List Event) : Type 0 where
   pub since : List Event
   pub split : h ≡ earlier ++ acts p ∷ since
   pub loaded : afterAll a earlier .status p ≡ asked (load x)
-  pub last : actsOf (loads x p) (after (afterAll a earlier) (acts p)) since ≡ 0
-  pub unwritten : actsOf (writes x) (after (afterAll a earlier) (acts p)) since ≡ 0
-  pub unreleased : actsOf (releases x p) (after (afterAll a earlier) (acts p)) since ≡ 0
+  pub last : countActs (loads x p) (after (afterAll a earlier) (acts p)) since ≡ 0
+  pub unwritten : countActs (writes x) (after (afterAll a earlier) (acts p)) since ≡ 0
+  pub unreleased : countActs (releases x p) (after (afterAll a earlier) (acts p)) since ≡ 0

@@ -12,7 +12,7 @@ use Rattle.wire.specs.Bytes.{entryMark, marked, wordAt}
 use Rattle.tasks.specs.Records.{cellNo}
 use Rattle.steps.specs.Table.{rows, effectOf}
 use Rattle.entries.specs.Entry.{entryOf, nonzero, outside}
-use Rattle.entries.specs.Order.{loadOf, storeOf, linkedOf, callOf, orderOf}
+use Rattle.entries.specs.Order.{loadOf, storeOf, linkedCallOf, callOf, orderOf}
 use Rattle.tables.specs.Tables.{taskIn}
 use Rattle.cells.specs.Machine.{seenOf, carriedOf, inRange}
 use Rattle.cells.specs.Apply.{judgedOf, decisionOf, carriedBy, applyOf}
@@ -92,7 +92,7 @@ module _ (m : Machine) (K : Kept m) (e : List ℕ) where
         off false false f g h = h
 
     called : May m e → Taken (callOf entry t (seenOf m t))
-    unfolding callOf loadOf storeOf linkedOf carriedOf
+    unfolding callOf loadOf storeOf linkedCallOf carriedOf
     called (go k c y f0 f6) = rw k (made f0 f6 (effectOf t (seenOf m t)) (steady m K (getD e 2 0) (f .task)))
     called (load k c y f0) = rw (k, f0)
     called (store k c f6) = rw (k, f6, eq-eqb (getD e 4 0) (t .cell .0) c)
@@ -128,7 +128,7 @@ module _ (m : Machine) (K : Kept m) (e : List ℕ) where
   not-linked h q = false≢true (rw q at h)
 
   told : kindOf e ≤ 4 → nonzero entry ≡ false → outside (m .n) entry ≡ false → Told (callOf entry t (seenOf m t))
-  unfolding callOf loadOf storeOf linkedOf nonzero outside
+  unfolding callOf loadOf storeOf linkedCallOf nonzero outside
   told h4 hz hn =
       by-test Told (eqb (kindOf e) 0) _ _
       (λ k h. let z = (rw (eqb-true (kindOf e) 0 k) at hz) in

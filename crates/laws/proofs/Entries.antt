@@ -14,7 +14,7 @@ use Rattle.answers.specs.Numbers.{refusalNumber}
 use Rattle.tasks.specs.Records.{cellNo, noTask}
 use Rattle.steps.specs.Table.{effectOf}
 use Rattle.entries.specs.Entry.{entryOf, nonzero, outside}
-use Rattle.entries.specs.Order.{loadOf, storeOf, linkedOf, callOf, orderOf}
+use Rattle.entries.specs.Order.{loadOf, storeOf, linkedCallOf, callOf, orderOf}
 use Rattle.tables.specs.Tables.{taskIn}
 use Rattle.cells.specs.Machine.{seenOf, refusedBy, carriedOf, inRange}
 use Rattle.cells.specs.Apply.{judgedOf, decisionOf, carriedBy, applyOf}
@@ -55,7 +55,7 @@ module _ (m : Machine) (e : List ℕ) where
 
   -- 16 or 17, 18, 22 (the step)
   call : (s : ℕ) → getD e 2 0 < m .p → kind ≤ 4 → outside (m .n) (entry s) ≡ false → Out (callOf (entry s) t (seenOf m t))
-  unfolding callOf loadOf storeOf linkedOf carriedOf outside
+  unfolding callOf loadOf storeOf linkedCallOf carriedOf outside
   call s hp h4 hn =
       by-test Out (eqb kind 0) _ _ (λ k. step (eqb-true kind 0 k) hp (stepOf m e) refl)
       (λ k0. by-test Out (eqb kind 1) _ _

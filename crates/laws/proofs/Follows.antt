@@ -150,7 +150,7 @@ module _ (m : Machine) (K : Kept m) (p : TaskNo) (hp : p .0 < m .p) (a : State) 
       away : (q : ℕ) → q < m .p → T (passed (task m q .phase)) → task m q .held .0 ≢ o
       away q hq k w = let h : T (live 7) → o ≢ task m q .held .0 = rw e at (K .held q (p .0) hq hp k) in h tt (sym w)
 
-  -- p, whose check has passed, is in S[x] or not
+  -- p, whose check has passed, is in S[x] where x is at the node that it holds
   member-is : (f : ℕ) (b : Bool) → inSet f ≡ true → t ≡ at f → eqb (node x) (t .held .0) ≡ b → a .cells .member x (p .0) ≡ b
   member-is f b s e q = sym (link f e x (in-t .cell)) ∙ rw (s, eq-eqb x x refl, q)
 
@@ -198,11 +198,12 @@ module _ (m : Machine) (K : Kept m) (p : TaskNo) (hp : p .0 < m .p) (a : State) 
 
   -- a validate at its one step, which also ends it: the cells stay, and p's part in S[x] is what the comparison found
   validate-acts : (e : t ≡ at 15) (b : Bool) → eqb (node x) (t .held .0) ≡ b
-      → Follows a (acts (p .0) ∷ ends (p .0) (cond b good gone) ∷ []) × Matches (turned (at 6) (m .counts)) (afterAll a (acts (p .0) ∷ ends (p .0) (cond b good gone) ∷ []))
+      → Follows a (acts (p .0) ∷ ends (p .0) (cond b good gone) ∷ [])
+      × Matches (turned (at 6) (m .counts)) (afterAll a (acts (p .0) ∷ ends (p .0) (cond b good gone) ∷ []))
   validate-acts e b q = rw (begun, member-is 15 b refl e q) (
     (tt, (put-same (a .status) (p .0) given, tt)),
-    still 15 (at 6) (m .counts) (put now (p .0) quiet) e (λ y. refl) (sym (put-same now (p .0) quiet))
-        (λ q n. put-other now (p .0) quiet q n ∙ put-other (a .status) (p .0) given q n),
+    still 15 (at 6) (m .counts) (put later (p .0) quiet) e (λ y. refl) (sym (put-same later (p .0) quiet))
+        (λ q n. put-other later (p .0) quiet q n ∙ put-other (a .status) (p .0) given q n),
   )
     where
       begun : a .status (p .0) ≡ asked (validate x)
@@ -211,8 +212,8 @@ module _ (m : Machine) (K : Kept m) (p : TaskNo) (hp : p .0 < m .p) (a : State) 
       given : Status
       given = acted (cond b good gone)
 
-      now : ℕ → Status
-      now = put (a .status) (p .0) given
+      later : ℕ → Status
+      later = put (a .status) (p .0) given
 
   row-fits : {f : ℕ} {d : Deed} → Moves t (seenOf m t) f d → t ≡ at f → Fits f d
   row-fits l1 e = (tt, stutter 1 _ _ e (λ y. refl) refl)

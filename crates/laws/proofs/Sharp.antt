@@ -17,7 +17,7 @@ use Rattle.tasks.specs.Records.{taskOk}
 use Rattle.steps.specs.Table.{after, raisedOf, loweredOf, rows, effectOf}
 use Rattle.tables.specs.Tables.{sizesOk}
 use Rattle.entries.specs.Entry.{entryOf, nonzero, outside}
-use Rattle.entries.specs.Order.{loadOf, storeOf, linkedOf, callOf, orderOf}
+use Rattle.entries.specs.Order.{loadOf, storeOf, linkedCallOf, callOf, orderOf}
 use Rattle.cells.specs.Machine.{carriedOf, inRange}
 use Rattle.cells.specs.Apply.{judgedOf, decisionOf, applyOf}
 use Rattle.cells.specs.Setup.{freshOf, setupOf}
@@ -75,7 +75,7 @@ record Computed : Type 0 where
   busy : used (applied fresh (case10 ++ gos 8 1)) ≡ 4
 
 computed : Computed
-unfolding total over applied applyOf decisionOf judgedOf orderOf callOf loadOf storeOf linkedOf entryOf nonzero outside marked wordAt carriedOf inRange sizesOk every taskOk effectOf rows after raisedOf loweredOf setupOf freshOf fillTo
+unfolding total over applied applyOf decisionOf judgedOf orderOf callOf loadOf storeOf linkedCallOf entryOf nonzero outside marked wordAt carriedOf inRange sizesOk every taskOk effectOf rows after raisedOf loweredOf setupOf freshOf fillTo
 computed =
     record { steps = refl; most = refl; loaded = refl; loads = refl; stores = refl; took = refl; count = refl; probing = refl; busy = refl }
 

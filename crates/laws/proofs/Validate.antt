@@ -37,7 +37,7 @@ module _ (s : List ℕ) (used : ℕ) (ok : setupOf s .answer ≡ Ready used) (es
   abbrev x : ℕ
   x = t .cell .0
 
-  -- the node that x points at, and m
+  -- the node that x points at, and the one that the task holds
   abbrev here : ℕ
   here = getD (m .cells) x 0
 
@@ -54,7 +54,7 @@ module _ (s : List ℕ) (used : ℕ) (ok : setupOf s .answer ≡ Ready used) (es
   Told = Validated x (getD e 2 0) first past
 
   module _ (a : Asks m e 0 15) where
-    -- the task is in S of its cell where the cell is at m
+    -- the task is in S of its cell where the cell is at the node that it holds
     member : afterAll first past .cells .member x (getD e 2 0) ≡ eqb here held
     member =
         let hx = schedule-keeps es (setupOf s .machine) (setup-kept s used ok) .sound .each (getD e 2 0) (a .task) .cell in
@@ -64,9 +64,9 @@ module _ (s : List ℕ) (used : ℕ) (ok : setupOf s .answer ≡ Ready used) (es
     unfolding rows
     row d w = subst Told (ap answerOf (sym (effect-at t (seenOf m t) 15 (a .phase)) ∙ w .does))
         (by-test (λ y. Told (answerOf y)) (eqb held here) _ _
-        (λ q. let w = member ∙ eq-eqb here held (sym (eqb-true held here q)) in good w (in-set x (getD e 2 0) (valueGiven s) past w))
-        (λ q. let w = member ∙ ne-eqb here held (λ k. eqb-false held here q (sym k)) in
-        gone w (λ u. false≢true (sym w ∙ unwritten-in x (getD e 2 0) first past u))))
+        (λ q. let inside = member ∙ eq-eqb here held (sym (eqb-true held here q)) in good inside (in-set x (getD e 2 0) (valueGiven s) past inside))
+        (λ q. let outside = member ∙ ne-eqb here held (λ k. eqb-false held here q (sym k)) in
+        gone outside (λ u. false≢true (sym outside ∙ unwritten-in x (getD e 2 0) first past u))))
 
   pub validate-tells : accepted (applyOf m e .answer) ≡ true → Asks m e 0 15 → Told (applyOf m e .answer)
   validate-tells =

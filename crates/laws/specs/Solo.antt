@@ -1,7 +1,6 @@
 -- A task alone: its running call ends within n of its own steps.
 use Prim.Native.Nat.{ℕ, zero, suc}
 use mathlib.Core.Path.{_≡_}
-use mathlib.Core.List.{List}
 use mathlib.Core.Logic.{_⊎_}
 use Rattle.cells.specs.Apply.{applyOf}
 use Rattle.laws.specs.Types.{Answer, Replied, Refused, Moved, Loaded, Took, Lost, Released, Good, Gone, Machine}

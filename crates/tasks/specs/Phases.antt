@@ -1,4 +1,4 @@
--- The sets of phases that document 01 speaks of.
+-- The sets of phases that documents 01 and 02 speak of.
 use Prim.Native.Nat.{ℕ}
 use mathlib.Core.Bool.{Bool, not, _||_}
 use lib.Dec.{eqb}
