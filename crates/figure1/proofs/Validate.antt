@@ -22,7 +22,8 @@ module _ (x p : ℕ) where
   -- an event is of none of the three sorts, and p is in S[x] after it as before; or it is p's load of x; or x is written or p releases it, and p
   -- is not in S[x] after it
   data Change (a : State) (e : Event) : Type 0 where
-    none : isEvent (loads x p) a e ≡ false → isEvent (writes x) a e ≡ false → isEvent (releases x p) a e ≡ false → member (after a e) ≡ member a → Change a e
+    none : isEvent (loads x p) a e ≡ false → isEvent (writes x) a e ≡ false → isEvent (releases x p) a e ≡ false → member (after a e) ≡ member a
+        → Change a e
     joins : e ≡ acts p → a .status p ≡ asked (load x) → Change a e
     leaves : 0 < bit (isEvent (writes x) a e) + bit (isEvent (releases x p) a e) → member (after a e) ≡ false → Change a e
 
@@ -105,7 +106,8 @@ module _ (x p : ℕ) where
       go (inr (k, s)) (leaves n q) = absurd (false≢true (sym q ∙ k))
 
   -- whoever is in S[x] stays in it while x is not written and p does not release it
-  stays : (h : List Event) (a : State) → countActs (writes x) a h ≡ 0 → countActs (releases x p) a h ≡ 0 → member a ≡ true → member (afterAll a h) ≡ true
+  stays : (h : List Event) (a : State) → countActs (writes x) a h ≡ 0 → countActs (releases x p) a h ≡ 0
+      → member a ≡ true → member (afterAll a h) ≡ true
   stays [] a v r k = k
   stays (e ∷ h) a v r k = stays h (after a e) (omega arith) (omega arith) (go (change a e))
     where

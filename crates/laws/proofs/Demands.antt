@@ -153,14 +153,16 @@ reached-matches h = let r = scheduled h in (r, rw (r .reaches) at (matches (r .s
 -- Figure 1 asks the set; source 004 asks whether a store to the cell took since the task's load, and with it whether that load was released, which is
 -- document 01's call. After any history the two give the same, to a validate and to a store (figure1's Validate).
 module _ (vals : ℕ → ℕ) (h : List Event) (x p : ℕ) where
-  pub good-exactly : (given (start vals) h p (validate x) ≡ good → Unwritten x p (start vals) h) × (Unwritten x p (start vals) h → given (start vals) h p (validate x) ≡ good)
+  pub good-exactly : (given (start vals) h p (validate x) ≡ good → Unwritten x p (start vals) h)
+      × (Unwritten x p (start vals) h → given (start vals) h p (validate x) ≡ good)
   good-exactly = validate-good vals h x p
 
   pub gone-exactly : (given (start vals) h p (validate x) ≡ gone → Unwritten x p (start vals) h → ⊥)
       × ((Unwritten x p (start vals) h → ⊥) → given (start vals) h p (validate x) ≡ gone)
   gone-exactly = validate-gone vals h x p
 
-  pub took-exactly : (y : ℕ) → (given (start vals) h p (store x y) ≡ took → Unwritten x p (start vals) h) × (Unwritten x p (start vals) h → given (start vals) h p (store x y) ≡ took)
+  pub took-exactly : (y : ℕ) → (given (start vals) h p (store x y) ≡ took → Unwritten x p (start vals) h)
+      × (Unwritten x p (start vals) h → given (start vals) h p (store x y) ≡ took)
   took-exactly = store-took vals h x p
 
   pub lost-exactly : (y : ℕ) → (given (start vals) h p (store x y) ≡ lost → Unwritten x p (start vals) h → ⊥)
