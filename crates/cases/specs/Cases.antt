@@ -73,8 +73,10 @@ cases =
     enters mended small
     (loads 0 0 7 ++ loads 1 0 7 ++ gives (store 1 0 9) 0 1 0 ∷ moves 1 7 ++ gives (go 1) 2 1 0
     ∷ validates 0 6 ++ gives (release 0) 0 0 0 ∷ gives (go 0) 4 0 0 ∷ []) ∷
-    -- validate is refused while idle and while a load runs
+    -- validate is refused while idle, and while a load, a store or a release runs
     enters mended small (gives (validate 0) 16 0 0 ∷ gives (load 0 0) 0 0 0 ∷ gives (validate 0) 16 0 0 ∷ []) ∷
+    enters mended small (loads 0 0 7 ++ gives (store 0 0 9) 0 0 0 ∷ gives (validate 0) 16 0 0 ∷ []) ∷
+    enters mended small (loads 0 0 7 ++ gives (release 0) 0 0 0 ∷ gives (validate 0) 16 0 0 ∷ []) ∷
     -- while a validate runs no call can begin; once it has ended there is no step to make
     enters mended small
     (loads 0 0 7 ++ gives (validate 0) 0 0 0

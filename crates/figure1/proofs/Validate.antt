@@ -10,8 +10,8 @@ use mathlib.Core.Logic.{_≢_, _⊎_, inl, inr}
 use borrow.Author.Tests.{eq-eqb, ne-eqb}
 use Rattle.tallies.specs.Tally.{bit}
 use Rattle.figure1.specs.Figure1.{load, store, release, validate, Result, took, lost, good, gone}
-use Rattle.figure1.specs.Histories.{Status, quiet, asked, acted, State, Event, begins, acts, ends, after, afterAll, start}
-use Rattle.figure1.specs.Validate.{given, writes, loads, releases, isEvent, countActs, Unwritten}
+use Rattle.figure1.specs.Histories.{Status, quiet, asked, acted, State, Event, begins, acts, ends, after, afterAll, given, start}
+use Rattle.figure1.specs.Validate.{writes, loads, releases, isEvent, countActs, Still, Unwritten, Decides}
 use Rattle.figure1.proofs.Lift.{after-append}
 use Rattle.figure1.proofs.Sets.{validate-foretells}
 
@@ -62,28 +62,20 @@ module _ (x p : ℕ) where
   change a (acts q) = change-act a q (a .status q) refl
   change a (ends q r) = none refl refl refl refl
 
-  -- in h x is not written, and p neither loads nor releases it
-  record Still (a : State) (h : List Event) : Type 0 where
-    unloaded : countActs (loads x p) a h ≡ 0
-    unwritten : countActs (writes x) a h ≡ 0
-    unreleased : countActs (releases x p) a h ≡ 0
-
   -- whoever is in S[x] at the end was in it all along, or joined on the way and stayed
-  since : (h : List Event) (a : State) → member (afterAll a h) ≡ true → Unwritten x p a h ⊎ ((member a ≡ true) × Still a h)
+  since : (h : List Event) (a : State) → member (afterAll a h) ≡ true → Unwritten x p a h ⊎ ((member a ≡ true) × Still x p a h)
   since [] a w = inr (w, record { unloaded = refl; unwritten = refl; unreleased = refl })
   since (e ∷ h) a w = go (since h (after a e) w) (change a e)
     where
-      go : Unwritten x p (after a e) h ⊎ ((member (after a e) ≡ true) × Still (after a e) h) → Change a e
-          → Unwritten x p a (e ∷ h) ⊎ ((member a ≡ true) × Still a (e ∷ h))
+      go : Unwritten x p (after a e) h ⊎ ((member (after a e) ≡ true) × Still x p (after a e) h) → Change a e
+          → Unwritten x p a (e ∷ h) ⊎ ((member a ≡ true) × Still x p a (e ∷ h))
       go (inl u) c =
           inl (record {
             earlier = e ∷ u .earlier;
             since = u .since;
             split = ap (λ l. e ∷ l) (u .split);
             loaded = u .loaded;
-            last = u .last;
-            unwritten = u .unwritten;
-            unreleased = u .unreleased;
+            still = u .still;
           })
       go (inr (k, s)) (none l v r q) = inr (
         sym q ∙ k,
@@ -94,15 +86,7 @@ module _ (x p : ℕ) where
         },
       )
       go (inr (k, s)) (joins q l) =
-          inl (record {
-            earlier = [];
-            since = h;
-            split = ap (λ z. z ∷ h) q;
-            loaded = l;
-            last = rw q at (s .unloaded);
-            unwritten = rw q at (s .unwritten);
-            unreleased = rw q at (s .unreleased);
-          })
+          inl (record { earlier = []; since = h; split = ap (λ z. z ∷ h) q; loaded = l; still = rw q at s })
       go (inr (k, s)) (leaves n q) = absurd (false≢true (sym q ∙ k))
 
   -- whoever is in S[x] stays in it while x is not written and p does not release it
@@ -120,7 +104,7 @@ module _ (x p : ℕ) where
   pub in-set : (vals : ℕ → ℕ) (h : List Event) → member (afterAll (start vals) h) ≡ true → Unwritten x p (start vals) h
   in-set vals h w = go (since h (start vals) w)
     where
-      go : Unwritten x p (start vals) h ⊎ ((false ≡ true) × Still (start vals) h) → Unwritten x p (start vals) h
+      go : Unwritten x p (start vals) h ⊎ ((false ≡ true) × Still x p (start vals) h) → Unwritten x p (start vals) h
       go (inl u) = u
       go (inr (k, s)) = absurd (false≢true k)
 
@@ -128,50 +112,36 @@ module _ (x p : ℕ) where
   unwritten-in a h u =
       let b = after (afterAll a (u .earlier)) (acts p) in
       rw (u .split, after-append a (u .earlier) (acts p ∷ u .since))
-      (stays (u .since) b (u .unwritten) (u .unreleased) (rw (u .loaded, eq-eqb x x refl, eq-eqb p p refl) refl))
+      (stays (u .since) b (u .still .unwritten) (u .still .unreleased) (rw (u .loaded, eq-eqb x x refl, eq-eqb p p refl) refl))
 
--- of a choice by p's part in S[x] between two results, the first is given exactly where no store to x took since p's load (and p has not released x)
-module _ (vals : ℕ → ℕ) (h : List Event) (x p : ℕ) (r s : Result) (apart : r ≢ s) where
-  abbrev in-S : Bool
-  in-S = afterAll (start vals) h .cells .member x p
-
-  first-exactly : (cond in-S r s ≡ r → Unwritten x p (start vals) h) × (Unwritten x p (start vals) h → cond in-S r s ≡ r)
-  first-exactly = (λ q. in-set x p vals h (go in-S q), λ u. rw (unwritten-in x p (start vals) h u))
-    where
-      go : (b : Bool) → cond b r s ≡ r → b ≡ true
-      go true q = refl
-      go false q = absurd (apart (sym q))
-
-  second-exactly : (cond in-S r s ≡ s → Unwritten x p (start vals) h → ⊥) × ((Unwritten x p (start vals) h → ⊥) → cond in-S r s ≡ s)
-  second-exactly = (λ q u. apart (sym (first-exactly .1 u) ∙ q), λ n. go in-S refl n)
-    where
-      go : (b : Bool) → in-S ≡ b → (Unwritten x p (start vals) h → ⊥) → cond b r s ≡ s
-      go true q n = absurd (n (in-set x p vals h q))
-      go false q n = refl
-
-good≢gone : good ≢ gone
-good≢gone q = let z : _≡_ {A = ℕ} 0 1 = cc in omega arith
-
-took≢lost : took ≢ lost
-took≢lost q = let z : _≡_ {A = ℕ} 0 1 = cc in omega arith
-
--- so after a history from the start VL(x) of task p gives good, and SC(x, y) takes, exactly there; elsewhere gone, and the store is lost
 module _ (vals : ℕ → ℕ) (h : List Event) (x p : ℕ) where
   abbrev a : State
   a = start vals
 
-  pub validate-good : (given a h p (validate x) ≡ good → Unwritten x p a h) × (Unwritten x p a h → given a h p (validate x) ≡ good)
-  validate-good = first-exactly vals h x p good gone good≢gone
+  abbrev in-S : Bool
+  in-S = afterAll a h .cells .member x p
 
-  pub validate-gone : (given a h p (validate x) ≡ gone → Unwritten x p a h → ⊥) × ((Unwritten x p a h → ⊥) → given a h p (validate x) ≡ gone)
-  validate-gone = second-exactly vals h x p good gone good≢gone
+  -- what is chosen by p's part in S[x] is decided by that
+  chosen : (r s : Result) → r ≢ s → Decides (Unwritten x p a h) r s (cond in-S r s)
+  chosen r s ne = record {
+    yes = (λ q. in-set x p vals h (first in-S q), there);
+    no = (λ q u. ne (sym (there u) ∙ q), λ n. second in-S refl n);
+  }
+    where
+      there : Unwritten x p a h → cond in-S r s ≡ r
+      there u = rw (unwritten-in x p a h u)
 
-  module _ (y : ℕ) where
-    told : given a h p (store x y) ≡ cond (afterAll a h .cells .member x p) took lost
-    told = validate-foretells (afterAll a h .cells) p x y (afterAll a h .cells .member x p) refl .1
+      first : (b : Bool) → cond b r s ≡ r → b ≡ true
+      first true q = refl
+      first false q = absurd (ne (sym q))
 
-    pub store-took : (given a h p (store x y) ≡ took → Unwritten x p a h) × (Unwritten x p a h → given a h p (store x y) ≡ took)
-    store-took = let f = first-exactly vals h x p took lost took≢lost in (λ q. f .0 (sym told ∙ q), λ u. told ∙ f .1 u)
+      second : (b : Bool) → in-S ≡ b → (Unwritten x p a h → ⊥) → cond b r s ≡ s
+      second true q n = absurd (n (in-set x p vals h q))
+      second false q n = refl
 
-    pub store-lost : (given a h p (store x y) ≡ lost → Unwritten x p a h → ⊥) × ((Unwritten x p a h → ⊥) → given a h p (store x y) ≡ lost)
-    store-lost = let f = second-exactly vals h x p took lost took≢lost in (λ q. f .0 (sym told ∙ q), λ n. told ∙ f .1 n)
+  -- so VL(x) of task p gives good, and its SC(x, y) takes, exactly where no store to x took since p's load, which is not released
+  pub validate-decided : Decides (Unwritten x p a h) good gone (given a h p (validate x))
+  validate-decided = chosen good gone (λ q. let z : _≡_ {A = ℕ} 0 1 = cc in omega arith)
+
+  pub store-decided : (y : ℕ) → Decides (Unwritten x p a h) took lost (given a h p (store x y))
+  store-decided y = rw (validate-foretells (afterAll a h .cells) p x y in-S refl .1) (chosen took lost (λ q. let z : _≡_ {A = ℕ} 0 1 = cc in omega arith))

@@ -46,6 +46,10 @@ abbrev pub afterAll : State → List Event → State
 afterAll a [] = a
 afterAll a (e ∷ es) = afterAll (after a e) es
 
+-- what the call c gives task p where it acts after the history h
+abbrev pub given : State → List Event → ℕ → Call → Result
+given a h p c = figure1 (afterAll a h .cells) p c .result
+
 -- every event of the history is legal where it stands
 abbrev pub Follows : State → List Event → Type 0
 Follows a [] = Unit {0}

@@ -56,16 +56,22 @@ abbrev pub countActs : Sort → State → List Event → ℕ
 countActs w a [] = 0
 countActs w a (e ∷ es) = bit (isEvent w a e) + countActs w (after a e) es
 
--- what the call c would give task p after the history h from the state a
-abbrev pub given : State → List Event → ℕ → Call → Result
-given a h p c = figure1 (afterAll a h .cells) p c .result
+-- in the history h from the state a, x is not written, and task p neither loads nor releases it
+pub record Still (x p : ℕ) (a : State) (h : List Event) : Type 0 where
+  pub unloaded : countActs (loads x p) a h ≡ 0
+  pub unwritten : countActs (writes x) a h ≡ 0
+  pub unreleased : countActs (releases x p) a h ≡ 0
 
--- after the history h from the state a: task p's last load of x acted after `earlier`, and `since` x was not written and p has not released it
+-- after the history h from the state a: task p's load of x acted after `earlier`, it is p's last, and `since` x was not written and p has not
+-- released it
 pub record Unwritten (x p : ℕ) (a : State) (h : List Event) : Type 0 where
   pub earlier : List Event
   pub since : List Event
   pub split : h ≡ earlier ++ acts p ∷ since
   pub loaded : afterAll a earlier .status p ≡ asked (load x)
-  pub last : countActs (loads x p) (after (afterAll a earlier) (acts p)) since ≡ 0
-  pub unwritten : countActs (writes x) (after (afterAll a earlier) (acts p)) since ≡ 0
-  pub unreleased : countActs (releases x p) (after (afterAll a earlier) (acts p)) since ≡ 0
+  pub still : Still x p (after (afterAll a earlier) (acts p)) since
+
+-- g is r exactly where P holds, and s exactly where it does not
+pub record Decides (P : Type 0) (r s g : Result) : Type 0 where
+  pub yes : (g ≡ r → P) × (P → g ≡ r)
+  pub no : (g ≡ s → P → ⊥) × ((P → ⊥) → g ≡ s)

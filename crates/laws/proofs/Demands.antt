@@ -13,14 +13,14 @@ use Rattle.cells.specs.Setup.{blankOf, setupOf}
 use Rattle.runs.specs.Counts.{accepted, taskOf, anywhere, loadsAt, stepsAt, turnedAt, swapsAt}
 use Rattle.runs.specs.Run.{entriesIn, entriesOf, replyBytes, repliesOf, untriedOf, ranOf, bufferOf}
 use Rattle.figure1.specs.Figure1.{Call, store, validate, Result, took, lost, good, gone}
-use Rattle.figure1.specs.Histories.{State, Event, begins, ends, after, afterAll, Follows, start}
+use Rattle.figure1.specs.Histories.{State, Event, begins, ends, after, afterAll, given, Follows, start}
 use Rattle.figure1.specs.Counts.{beginsBy, actsBy, endsBy, number}
 use Rattle.figure1.specs.Calls.{Acted, Called}
-use Rattle.figure1.specs.Validate.{given, Unwritten}
+use Rattle.figure1.specs.Validate.{Unwritten, Decides}
 use Rattle.figure1.specs.Engine.{history}
 use Rattle.figure1.proofs.Lift.{follows-split}
 use Rattle.figure1.proofs.Once.{finished, unfinished, in-order, cells-stay}
-use Rattle.figure1.proofs.Validate.{validate-good, validate-gone, store-took, store-lost}
+use Rattle.figure1.proofs.Validate.{validate-decided, store-decided}
 use Rattle.laws.specs.Types.{Refused, Refusal, NoRoom, Damaged, TooLong, Deed, Machine, Ready, NotSetUp}
 use Rattle.laws.specs.Acts.{Matches, finishes, eventsOf}
 use Rattle.laws.specs.Validate.{Validated}
@@ -150,24 +150,14 @@ pub reached-matches : {m : Machine} → Reached m
     → (r : Scheduled m) × Matches m (afterAll (start (valueGiven (r .setup))) (history pool (setupOf (r .setup) .machine) (r .entries)))
 reached-matches h = let r = scheduled h in (r, rw (r .reaches) at (matches (r .setup) (r .used) (r .ready) (r .entries)))
 
--- Figure 1 asks the set; source 004 asks whether a store to the cell took since the task's load, and with it whether that load was released, which is
--- document 01's call. After any history the two give the same, to a validate and to a store (figure1's Validate).
+-- Figure 1 asks the set; source 004 asks whether a store to the cell took since the task's load (and whether the task has released it, which is document
+-- 01's call). After any history the two decide alike, of a validate and of a store (figure1's Validate).
 module _ (vals : ℕ → ℕ) (h : List Event) (x p : ℕ) where
-  pub good-exactly : (given (start vals) h p (validate x) ≡ good → Unwritten x p (start vals) h)
-      × (Unwritten x p (start vals) h → given (start vals) h p (validate x) ≡ good)
-  good-exactly = validate-good vals h x p
+  pub validate-exactly : Decides (Unwritten x p (start vals) h) good gone (given (start vals) h p (validate x))
+  validate-exactly = validate-decided vals h x p
 
-  pub gone-exactly : (given (start vals) h p (validate x) ≡ gone → Unwritten x p (start vals) h → ⊥)
-      × ((Unwritten x p (start vals) h → ⊥) → given (start vals) h p (validate x) ≡ gone)
-  gone-exactly = validate-gone vals h x p
-
-  pub took-exactly : (y : ℕ) → (given (start vals) h p (store x y) ≡ took → Unwritten x p (start vals) h)
-      × (Unwritten x p (start vals) h → given (start vals) h p (store x y) ≡ took)
-  took-exactly = store-took vals h x p
-
-  pub lost-exactly : (y : ℕ) → (given (start vals) h p (store x y) ≡ lost → Unwritten x p (start vals) h → ⊥)
-      × ((Unwritten x p (start vals) h → ⊥) → given (start vals) h p (store x y) ≡ lost)
-  lost-exactly = store-lost vals h x p
+  pub store-exactly : (y : ℕ) → Decides (Unwritten x p (start vals) h) took lost (given (start vals) h p (store x y))
+  store-exactly = store-decided vals h x p
 
 -- the cells change only where a call acts
 pub only-acts-change : (h : List Event) (a : State) → ((q : ℕ) → number (actsBy q) h ≡ 0) → afterAll a h .cells ≡ a .cells
