@@ -7,7 +7,7 @@ use lib.Dec.{eqb, ltb}
 use lib.ListN.{List·getD-map}
 use borrow.Author.Tests.{lt-leb, ltb-true, eqb-true, not-true}
 use Rattle.tallies.proofs.Lists.{both}
-use Rattle.steps.specs.Table.{rows, beyond, effectOf}
+use Rattle.steps.specs.Table.{rows, noPhase, effectOf}
 use Rattle.entries.specs.declared.Entry.{Entry}
 use Rattle.entries.specs.declared.EntryRead.{EntryRead}
 use Rattle.entries.specs.declared.EntryRead.the-variants.{Whole, Refused as Unread}
@@ -35,7 +35,7 @@ step-own m e h =
       lt-leb (m .p) (e .task .0) (ltb-true _ _ (h₁ .0)),
       not-true (nonzero e) (h₂ .1),
       eqb-true (e .kind) 0 (h₂ .0),
-      List·getD-map asWritten rows (taskIn (m .tasks) (e .task) .phase) beyond,
+      List·getD-map asWritten rows (taskIn (m .tasks) (e .task) .phase) noPhase,
     )
 
 -- bytes that are read as an entry, on a record in range

@@ -12,7 +12,7 @@ use Rattle.tasks.specs.declared.Task.{Task}
 use Rattle.tasks.specs.Records.{onward, holding, taskOk}
 use Rattle.steps.specs.declared.Effect.{Effect}
 use Rattle.steps.specs.declared.Write.the-variants.{Nothing, Point, Value}
-use Rattle.steps.specs.Table.{Row as TableRow, does, counting, raising, beyond, rows, effectOf, after, raisedOf, loweredOf}
+use Rattle.steps.specs.Table.{Row as TableRow, does, counting, raising, noPhase, rows, effectOf, after, raisedOf, loweredOf}
 use Rattle.tables.specs.Tables.{nodeIn, valueIn, taskIn, sizesOk}
 use Rattle.entries.specs.declared.Entry.{Entry}
 use Rattle.entries.specs.declared.EntryRead.{EntryRead}
@@ -41,7 +41,7 @@ table = map asWritten rows
 
 -- a go, by the row of its task's phase
 abbrev pub stepBy : List Row → Machine → Entry → Applied
-stepBy rs m e = let t = taskIn (m .tasks) (e .task) in carriedOf m (e .task) (getD rs (t .phase) (asWritten beyond) m t)
+stepBy rs m e = let t = taskIn (m .tasks) (e .task) in carriedOf m (e .task) (getD rs (t .phase) (asWritten noPhase) m t)
 
 -- a go of a task below P, with zeros where they must be
 abbrev pub goes : Machine → Entry → Bool

@@ -3,15 +3,16 @@ use Prim.Native.Nat.{ℕ, _+_, _≤_, _<_}
 use native.Mathlib.Omega.{arith}
 use native.Mathlib.Decide.{decLe, decLt, ℕ-discrete}
 use mathlib.Core.Path.{_≡_, refl, sym, ap, _∙_, subst}
-use mathlib.Core.Bool.{Bool, true, _&&_}
+use mathlib.Core.Bool.{Bool, true, not, _&&_}
 use mathlib.Core.List.{List, [], _∷_}
-use lib.Dec.{leb, ltb}
+use lib.Dec.{eqb, leb, ltb}
 use lib.ListN.{length, getD, set, replicate, length-set, length-replicate, getD-replicate, List·getD-eq-default}
 use lib.Seq.{getD-set-same, getD-set-other, set-out}
-use borrow.Author.Tests.{le-leb, leb-true, ltb-true}
+use borrow.Author.Tests.{le-leb, leb-true, ltb-true, eqb-false, not-true}
 use Rattle.tallies.specs.Lists.{every}
 use Rattle.tallies.proofs.Lists.{both, fill-past, every-at, every-same}
 use Rattle.tasks.specs.Records.{nodeNo, noTask, idleOwning, taskOk}
+use Rattle.tasks.specs.Phases.{isPhase}
 use Rattle.tables.specs.Tables.{cellOk, countOk, taskOkIn, taskIn, valueGiven}
 use Rattle.entries.specs.Entry.{entryOf}
 use Rattle.entries.specs.Order.{orderOf}
@@ -25,7 +26,7 @@ use Rattle.laws.specs.Kept.{InRange, Kept}
 use Rattle.laws.specs.Schedules.{applied, Reached}
 use Rattle.laws.specs.Beyond.{Bare, Agree, Alike, Alike-after}
 use Rattle.laws.proofs.Entries.{taskNo, by-entry}
-use Rattle.laws.proofs.Rows.{Moves, l1, l2, l3-passed, l3-turned, l4, l5, s1, s2-swapped, s2-missed, s3, s4-took, s4-shared, s5, s6-took, s6-busy, s7, r1, v1-good, v1-gone, moves}
+use Rattle.laws.proofs.Rows.{Moves, l1, l2, l3-passed, l3-turned, l4, l5, s1, s2-swapped, s2-missed, s3-took, s3-shared, s5, s6-took, s6-busy, s7, r1, v1-good, v1-gone, moves}
 use Rattle.laws.proofs.Table.{entry-keeps}
 use Rattle.laws.proofs.Start.{Sizes, by-setup, setup-kept}
 use Rattle.laws.proofs.Reached.{scheduled}
@@ -66,9 +67,8 @@ row-inside n k t s r (l5 h) = r .held
 row-inside n k t s r s1 = r .own
 row-inside n k t s r (s2-swapped h) = r .cell
 row-inside n k t s r (s2-missed h) = tt
-row-inside n k t s r (s3 h) = r .held
-row-inside n k t s r (s4-took h) = tt
-row-inside n k t s r (s4-shared h) = tt
+row-inside n k t s r (s3-took h) = r .held
+row-inside n k t s r (s3-shared h w) = r .held
 row-inside n k t s r (s5 h) = r .held
 row-inside n k t s r (s6-took h) = r .cursor
 row-inside n k t s r (s6-busy h) = tt
@@ -198,11 +198,12 @@ module _ (m : Machine) (cs vs ns : List ℕ) (ts : List Task) (C : Agree 0 (m .n
     task-range q h =
         let t = getD (m .tasks) q noTask in
         let all = both (tablesOk (m .n) (m .p) (m .k) (m .cells) (m .counts)) (every (taskOkIn (m .tasks) (m .n) (m .k)) (m .p)) inside .1 in
-        let a = both (leb (t .phase) 15 && ltb (t .cell .0) (m .n) && ltb (t .held .0) (m .k) && ltb (t .own .0) (m .k)) (ltb (t .cursor .0) (m .k)) (every-at (taskOkIn (m .tasks) (m .n) (m .k)) (m .p) q all h) in
-        let b = both (leb (t .phase) 15 && ltb (t .cell .0) (m .n) && ltb (t .held .0) (m .k)) (ltb (t .own .0) (m .k)) (a .0) in
-        let c = both (leb (t .phase) 15 && ltb (t .cell .0) (m .n)) (ltb (t .held .0) (m .k)) (b .0) in
-        let d = both (leb (t .phase) 15) (ltb (t .cell .0) (m .n)) (c .0) in
-        record { phase = leb-true _ _ (d .0); cell = ltb-true _ _ (d .1); held = ltb-true _ _ (c .1); own = ltb-true _ _ (b .1); cursor = ltb-true _ _ (a .1) }
+        let a = both (isPhase (t .phase) && ltb (t .cell .0) (m .n) && ltb (t .held .0) (m .k) && ltb (t .own .0) (m .k)) (ltb (t .cursor .0) (m .k)) (every-at (taskOkIn (m .tasks) (m .n) (m .k)) (m .p) q all h) in
+        let b = both (isPhase (t .phase) && ltb (t .cell .0) (m .n) && ltb (t .held .0) (m .k)) (ltb (t .own .0) (m .k)) (a .0) in
+        let c = both (isPhase (t .phase) && ltb (t .cell .0) (m .n)) (ltb (t .held .0) (m .k)) (b .0) in
+        let d = both (isPhase (t .phase)) (ltb (t .cell .0) (m .n)) (c .0) in
+        let f = both (leb (t .phase) 15) (not (eqb (t .phase) 10)) (d .0) in
+        record { phase = (leb-true _ _ (f .0), eqb-false _ _ (not-true _ (f .1))); cell = ltb-true _ _ (d .1); held = ltb-true _ _ (c .1); own = ltb-true _ _ (b .1); cursor = ltb-true _ _ (a .1) }
 
     seen-same : (t : Task) → InRange (m .n) (m .k) t → seenOf m t ≡ seenOf m′ t
     seen-same t r = λ i. record {

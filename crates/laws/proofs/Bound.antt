@@ -25,7 +25,7 @@ use Rattle.laws.specs.Types.{Task, Call, Load, Store, Release, Validate,
 use Rattle.laws.specs.Schedules.{applied, over}
 use Rattle.laws.proofs.Entries.{Asks, begunBy, steppedBy, by-entry}
 use Rattle.laws.proofs.Start.{by-setup}
-use Rattle.laws.proofs.Rows.{Moves, l1, l2, l3-passed, l3-turned, l4, l5, s1, s2-swapped, s2-missed, s3, s4-took, s4-shared, s5, s6-took, s6-busy, s7, r1, v1-good, v1-gone, moves}
+use Rattle.laws.proofs.Rows.{Moves, l1, l2, l3-passed, l3-turned, l4, l5, s1, s2-swapped, s2-missed, s3-took, s3-shared, s5, s6-took, s6-busy, s7, r1, v1-good, v1-gone, moves}
 
 module _ (on : ℕ → Bool) where
   -- the steps that a load still has to make, a check that turns back not counted
@@ -109,9 +109,8 @@ module _ (on : ℕ → Bool) where
     row f d k q s1 = quiet 0 f d k q refl (omega arith)
     row f d k q (s2-swapped c) = simp (bit-and, k, q, now (at 9)) (omega (arith, moved left 8 (at 9) q), omega (arith, swing (on (t .cell .0)) refl q))
     row f d k q (s2-missed c) = quiet 0 f d k q refl (omega arith)
-    row f d k q (s3 c) = quiet 0 f d k q refl (omega arith)
-    row f d k q (s4-took c) = quiet 0 f d k q refl (omega arith)
-    row f d k q (s4-shared c) = quiet 0 f d k q refl (omega arith)
+    row f d k q (s3-took c) = quiet 0 f d k q refl (omega arith)
+    row f d k q (s3-shared h c) = quiet 0 f d k q refl (omega arith)
     row f d k q (s5 c) = quiet 0 f d k q refl (omega arith)
     row f d k q (s6-took c) = quiet 0 f d k q refl (omega arith)
     row f d k q (s6-busy c) = quiet 0 f d k q refl (omega arith)

@@ -30,7 +30,7 @@ use Rattle.laws.specs.Kept.{InRange, Kept}
 use Rattle.laws.specs.Schedules.{applied, tried, Reached, set-up, entered, ran}
 use Rattle.laws.proofs.Phases.{phase-gives, either}
 use Rattle.laws.proofs.Entries.{taskNo, by-entry}
-use Rattle.laws.proofs.Rows.{Moves, l1, l2, l3-passed, l3-turned, l4, l5, s1, s2-swapped, s2-missed, s3, s4-took, s4-shared, s5, s6-took, s6-busy, s7, r1, v1-good, v1-gone, moves}
+use Rattle.laws.proofs.Rows.{Moves, l1, l2, l3-passed, l3-turned, l4, l5, s1, s2-swapped, s2-missed, s3-took, s3-shared, s5, s6-took, s6-busy, s7, r1, v1-good, v1-gone, moves}
 use Rattle.laws.proofs.Keeps.{task, in-list, put-here, in-cells}
 use Rattle.laws.proofs.Table.{entry-keeps}
 use Rattle.laws.proofs.Start.{by-setup}
@@ -70,9 +70,8 @@ module _ (m : Machine) (K : Kept m) (e : List ℕ) (hp : getD e 2 0 < m .p) wher
   row f d q s1 = carried (d .task) (d .write) refl (λ h k. h (rw q tt))
   row f d q (s2-swapped c) = λ s. (getD e 2 0, hp, rw (put-here m K (d .task) hp) (λ k. absurd k))
   row f d q (s2-missed c) = carried (d .task) (d .write) refl (λ h k. absurd (c (h (rw q tt))))
-  row f d q (s3 c) = carried (d .task) (d .write) refl (λ h k. absurd k)
-  row f d q (s4-took c) = carried (d .task) (d .write) refl (λ h k. absurd k)
-  row f d q (s4-shared c) = carried (d .task) (d .write) refl (λ h k. absurd k)
+  row f d q (s3-took c) = carried (d .task) (d .write) refl (λ h k. absurd k)
+  row f d q (s3-shared l c) = carried (d .task) (d .write) refl (λ h k. absurd k)
   row f d q (s5 c) = carried (d .task) (d .write) refl (λ h k. absurd k)
   row f d q (s6-took c) = carried (d .task) (d .write) refl (λ h k. absurd k)
   row f d q (s6-busy c) = carried (d .task) (d .write) refl (λ h k. absurd k)

@@ -1,5 +1,5 @@
 -- Refusal 22 is never met by a record that is `Kept`: not by its ranges, not by a step, not in a run. Assumes nothing.
-use Prim.Native.Nat.{ℕ, _+_, _*_, _≤_, _<_}
+use Prim.Native.Nat.{ℕ, _+_, _-_, _*_, _≤_, _<_}
 use native.Mathlib.Omega.{arith}
 use mathlib.Core.Path.{_≡_, refl, sym, _∙_}
 use mathlib.Core.Bool.{true, _||_, false≢true}
@@ -12,7 +12,7 @@ use Rattle.tallies.proofs.Lists.{within-true, every-true}
 use Rattle.answers.specs.Numbers.{numberOf}
 use Rattle.tasks.specs.Records.{onward, probing, taskOk}
 use Rattle.tasks.specs.Phases.{holds}
-use Rattle.steps.specs.Table.{after, raisedOf, loweredOf, counting, rows, beyond, effectOf}
+use Rattle.steps.specs.Table.{after, raisedOf, loweredOf, counting, leaving, rows, noPhase, effectOf}
 use Rattle.tables.specs.Tables.{sizesOk, cellOk, countOk, taskOkIn}
 use Rattle.cells.specs.Machine.{seenOf, inRange}
 use Rattle.cells.specs.Apply.{applyOf}
@@ -33,7 +33,7 @@ module _ (m : Machine) (K : Kept m) where
   unfolding taskOk
   task-ok q h =
       let r = K .sound .each q h in
-      rw (le-leb _ _ (r .phase), lt-ltb _ _ (r .cell), lt-ltb _ _ (r .held), lt-ltb _ _ (r .own), lt-ltb _ _ (r .cursor))
+      rw (le-leb _ _ (r .phase .0), ne-eqb _ _ (r .phase .1), lt-ltb _ _ (r .cell), lt-ltb _ _ (r .held), lt-ltb _ _ (r .own), lt-ltb _ _ (r .cursor))
 
   pub in-range : inRange m ≡ true
   unfolding inRange sizesOk
@@ -62,6 +62,12 @@ module _ (m : Machine) (K : Kept m) where
     unfolding loweredOf
     lowers-well f t′ r w h = rw (ne-eqb (getD (m .counts) (t .held .0) 0) 0 (omega (arith, can-lower m K q hq (rw w h)))) tt
 
+    leaves-well : t .phase ≡ 9 → Steady 9 (leaving (loweredOf (t .held) (getD (m .counts) (t .held .0) 0)) t)
+    unfolding loweredOf
+    leaves-well w =
+        let c = getD (m .counts) (t .held .0) 0 in
+        rw (ne-eqb c 0 (omega (arith, can-lower m K q hq (rw w tt)))) (by-test (Steady 9) (eqb (c - 1) 1) _ _ (λ y. tt) (λ y. tt))
+
     raises-well : (t′ : Task) (r : Reply) → t .phase ≡ 2 → Steady 2 (counting (raisedOf (m .p) (t .held) (getD (m .counts) (t .held .0) 0)) t′ r)
     unfolding raisedOf
     raises-well t′ r w =
@@ -71,11 +77,10 @@ module _ (m : Machine) (K : Kept m) where
 
     pub steady : Steady (t .phase) (effectOf t (seenOf m t))
     unfolding effectOf rows
-    steady = by-phase (λ f. t .phase ≡ f → Steady f (getD rows f beyond t (seenOf m t)))
+    steady = by-phase (λ f. t .phase ≡ f → Steady f (getD rows f noPhase t (seenOf m t)))
         (λ w. (refl, tt)) (λ w. tt) (raises-well (onward t 3) Moved) (λ w. by-test (Steady 3) (eqb (t .held .0) (getD (m .cells) (t .cell .0) 0)) _ _ (λ y. tt) (λ y. tt))
         (λ w. tt) (λ w. lowers-well 5 (onward t 1) Moved w tt) (λ w. (refl, tt)) (λ w. tt)
-        (λ w. by-test (Steady 8) (eqb (t .held .0) (getD (m .cells) (t .cell .0) 0)) _ _ (λ y. tt) (λ y. tt)) (λ w. lowers-well 9 (onward t 10) Moved w tt)
-        (λ w. by-test (Steady 10) (eqb (getD (m .counts) (t .held .0) 0) 1) _ _ (λ y. tt) (λ y. tt))
+        (λ w. by-test (Steady 8) (eqb (t .held .0) (getD (m .cells) (t .cell .0) 0)) _ _ (λ y. tt) (λ y. tt)) leaves-well
         (λ w. lowers-well 11 (onward (probing t (after (m .k) (t .held))) 12) Moved w tt)
         (λ w. by-test (Steady 12) (eqb (getD (m .counts) (t .cursor .0) 0) 0) _ _ (λ y. tt) (λ y. tt))
         (λ w. lowers-well 13 (onward t 0) Lost w tt) (λ w. lowers-well 14 (onward t 0) Released w tt)

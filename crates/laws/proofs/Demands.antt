@@ -43,6 +43,7 @@ use lib.Dec.{T, eqb}
 use Rattle.tallies.specs.Lists.{within}
 use Rattle.tallies.specs.Tally.{tally}
 use Rattle.tasks.specs.Records.{nodeNo, noTask}
+use Rattle.tasks.specs.Phases.{storing}
 use Rattle.tasks.specs.Holders.{heldAmong, holdersValue}
 use Rattle.laws.specs.Meaning.{points, owns, swapped, used, free}
 use Rattle.laws.specs.Small as Small
@@ -229,11 +230,11 @@ module _ {m : Machine} (r : Reached m) (p : ℕ) (h : p < m .p) where
   pub load-ends : T (within 1 5 phase) → Within 7 m p
   load-ends = load-solo p m (reached-kept r) h
 
-  -- its store within N + 2P + 4, and even within N + 2P + 3
-  pub store-ends : T (within 7 13 phase) → Within (m .n + 2 * m .p + 4) m p
+  -- its store within N + 2P + 3, and even within N + 2P + 2
+  pub store-ends : T (storing phase) → Within (m .n + 2 * m .p + 3) m p
   store-ends = store-solo p m (reached-kept r) h
 
-  pub store-ends-sooner : T (within 7 13 phase) → Within (m .n + 2 * m .p + 3) m p
+  pub store-ends-sooner : T (storing phase) → Within (m .n + 2 * m .p + 2) m p
   store-ends-sooner = store-sooner p m (reached-kept r) h
 
   -- its release within 1
@@ -248,15 +249,15 @@ module _ {m : Machine} (r : Reached m) (p : ℕ) (h : p < m .p) where
   pub room-to-store : phase ≡ 12 → 2 ≤ free m
   room-to-store = two-free m (reached-kept r) p h
 
--- in the records of cases 11 and 10, neither 6 steps are enough for the load nor N + 2P + 2 = 7 for the store (Sharp)
+-- in the records of cases 11 and 10, neither 6 steps are enough for the load nor N + 2P + 1 = 6 for the store (Sharp)
 pub load-ends-met : Within 6 (applied Small.fresh Small.case11) 0 → ⊥
 load-ends-met = Sharp.load-met
 
-pub store-ends-met : Within 7 (applied Small.fresh Small.case10) 1 → ⊥
+pub store-ends-met : Within 6 (applied Small.fresh Small.case10) 1 → ⊥
 store-ends-met = Sharp.store-met
 
--- and no more than two nodes are free where task 1 begins to look for one in case 10, after its five steps S1 to S5 (Sharp)
-pub room-to-store-met : free (applied Small.fresh (Small.case10 ++ Small.gos 5 1)) ≡ 2
+-- and no more than two nodes are free where task 1 begins to look for one in case 10, after its four steps S1, S2, S3 and S5 (Sharp)
+pub room-to-store-met : free (applied Small.fresh (Small.case10 ++ Small.gos 4 1)) ≡ 2
 room-to-store-met = Sharp.free-met
 
 -- THE POOL. Of every record reached: no count passes P + 1 (Room), and at most N + 2P - 1 nodes are in use (Busy), one less than K must be.
@@ -272,7 +273,7 @@ pub count-limit-met : getD (applied Small.fresh Small.case10 .counts) 0 0 ≡ 3
 count-limit-met = Sharp.count-met
 
 -- and after task 1's store N + 2P - 1 = 4 nodes are in use (Sharp)
-pub used-limit-met : used (applied Small.fresh (Small.case10 ++ Small.gos 8 1)) ≡ 4
+pub used-limit-met : used (applied Small.fresh (Small.case10 ++ Small.gos 7 1)) ≡ 4
 used-limit-met = Sharp.busy-met
 
 -- WHAT A COUNT IS, for whoever asks what a node is owed: the cells, owners and holders that document 01's holders question counts (Counts).

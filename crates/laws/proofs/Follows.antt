@@ -26,7 +26,7 @@ use Rattle.laws.specs.Kept.{Ready, InRange, Kept}
 use Rattle.laws.specs.Acts.{inSet, linkedAt, standing, Matches, actsFrom, ending, each, eventsIn, eventsOf}
 use Rattle.laws.proofs.Phases.{either, phase-gives}
 use Rattle.laws.proofs.Entries.{taskNo, by-entry}
-use Rattle.laws.proofs.Rows.{Moves, l1, l2, l3-passed, l3-turned, l4, l5, s1, s2-swapped, s2-missed, s3, s4-took, s4-shared, s5, s6-took, s6-busy, s7, r1, v1-good, v1-gone, moves}
+use Rattle.laws.proofs.Rows.{Moves, l1, l2, l3-passed, l3-turned, l4, l5, s1, s2-swapped, s2-missed, s3-took, s3-shared, s5, s6-took, s6-busy, s7, r1, v1-good, v1-gone, moves}
 use Rattle.laws.proofs.Keeps.{task, in-list, put-here, in-cells, part}
 
 -- only a load that has passed its check looks at a value
@@ -225,9 +225,8 @@ module _ (m : Machine) (K : Kept m) (p : TaskNo) (hp : p .0 < m .p) (a : State) 
   row-fits s1 e = (tt, s1-fits e)
   row-fits (s2-swapped q) e = acts-now (store x (t .value)) _ (stand 8 e) (swap-acts e q)
   row-fits (s2-missed q) e = acts-now (store x (t .value)) _ (stand 8 e) (miss-acts e q)
-  row-fits (s3 h) e = (tt, stutter 9 (at 10) _ e (λ y. refl) refl)
-  row-fits (s4-took q) e = ((stand 10 e, tt), stands 10 _ _ quiet e (λ y. refl) refl)
-  row-fits (s4-shared q) e = (tt, stutter 10 (at 11) _ e (λ y. refl) refl)
+  row-fits (s3-took q) e = ((stand 9 e, tt), stands 9 _ _ quiet e (λ y. refl) refl)
+  row-fits (s3-shared h q) e = (tt, stutter 9 (at 11) _ e (λ y. refl) refl)
   row-fits (s5 h) e = (tt, stutter 11 _ _ e (λ y. refl) refl)
   row-fits (s6-took q) e = ((stand 12 e, tt), stands 12 _ _ quiet e (λ y. refl) refl)
   row-fits (s6-busy q) e = (tt, stutter 12 _ _ e (λ y. refl) refl)

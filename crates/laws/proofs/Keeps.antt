@@ -17,7 +17,7 @@ use Rattle.cells.specs.Machine.{cellsAfter, valuesAfter, countsAfter, written}
 use Rattle.cells.proofs.Written.{cells-after, values-after, counts-after}
 use Rattle.laws.specs.Types.{NodeNo, TaskNo, Task, Write, Nothing, Count, Machine}
 use Rattle.laws.specs.Meaning.{points, claims, pointers, claimers}
-use Rattle.laws.specs.Kept.{Apart, Ready, InRange, Kept}
+use Rattle.laws.specs.Kept.{Apart, Ready, Phase, InRange, Kept}
 use Rattle.laws.proofs.Phases.{phase-gives}
 
 -- task q's record
@@ -28,7 +28,7 @@ task m q = getD (m .tasks) q noTask
 pub owned : (t : Task) (i : ℕ) → T (live (t .phase)) → t .own .0 ≡ i → 1 ≤ claims i t
 owned t i l r = rw (T→true (live (t .phase)) l) (omega (arith, bit-eq (t .own .0) i r))
 
-pub kept : (t : Task) (i : ℕ) → t .phase ≤ 15 → T (passed (t .phase)) → t .held .0 ≡ i → 1 ≤ keeps i t
+pub kept : (t : Task) (i : ℕ) → Phase (t .phase) → T (passed (t .phase)) → t .held .0 ≡ i → 1 ≤ keeps i t
 kept t i h k r = rw (T→true (holds (t .phase)) (phase-gives passed holds tt (t .phase) h k)) (omega (arith, bit-eq (t .held .0) i r))
 
 module _ (m : Machine) (K : Kept m) where
@@ -174,15 +174,14 @@ module _ (m : Machine) (K : Kept m) (p : TaskNo) (hp : p .0 < m .p) (t : Task) (
       (λ i hi. omega (arith, b i, down-at (m .counts) (t .held .0) i (in-counts m K (range .held)) h))
 
   -- the task comes to own a node that nothing points at and nobody claims or holds, but the task itself
-  pub claiming : (v : NodeNo) (counts : List ℕ) → v .0 < m .k → pointers m (v .0) + claimers m (v .0) ≡ 0
+  pub claiming : (v : NodeNo) (counts : List ℕ) → v .0 < m .k → pointers m (v .0) + claimers m (v .0) ≡ claims (v .0) t
       → ((x : ℕ) → x < m .p → x ≢ p .0 → keeps (v .0) (task m x) ≡ 0)
-      → ((i : ℕ) → claims i t ≡ 0)
-      → ((i : ℕ) → i < m .k → getD counts i 0 + keeps i t ≡ getD (m .counts) i 0 + bit (eqb (v .0) i))
+      → ((i : ℕ) → i < m .k → getD counts i 0 + claims i t + keeps i t ≡ getD (m .counts) i 0 + bit (eqb (v .0) i))
       → Local (onward (owning t v) 0) (m .cells) (m .values) counts
-  claiming v counts hv free unheld z b = record {
+  claiming v counts hv free unheld b = record {
     in-range = record { phase = omega arith; cell = range .cell; held = range .held; own = hv; cursor = range .cursor };
     pointed = K .sound .pointed;
-    balance = λ i h. omega (arith, b i h, z i);
+    balance = λ i h. omega (arith, b i h);
     sole = λ i h. elim (ℕ-discrete (v .0) i) [
       | yes q ↦ omega (arith, rw q at free, bit-le (eqb (v .0) i))
       | no q ↦ omega (arith, K .sole i h, bit-ne (v .0) i q)

@@ -6,25 +6,27 @@ use mathlib.Core.Path.{_≡_, refl, subst, sym}
 use mathlib.Core.Bool.{Bool, true, false, cond, not, _&&_, _||_}
 use lib.Dec.{T}
 use Rattle.tallies.proofs.Lists.{each}
+use Rattle.laws.specs.Kept.{Phase}
 
-pub by-phase : (R : ℕ → Type 0) → R 0 → R 1 → R 2 → R 3 → R 4 → R 5 → R 6 → R 7 → R 8 → R 9 → R 10 → R 11 → R 12 → R 13 → R 14 → R 15 → (n : ℕ) → n ≤ 15 → R n
-by-phase R r0 r1 r2 r3 r4 r5 r6 r7 r8 r9 r10 r11 r12 r13 r14 r15 zero h = r0
-by-phase R r0 r1 r2 r3 r4 r5 r6 r7 r8 r9 r10 r11 r12 r13 r14 r15 (suc zero) h = r1
-by-phase R r0 r1 r2 r3 r4 r5 r6 r7 r8 r9 r10 r11 r12 r13 r14 r15 (suc (suc zero)) h = r2
-by-phase R r0 r1 r2 r3 r4 r5 r6 r7 r8 r9 r10 r11 r12 r13 r14 r15 (suc (suc (suc zero))) h = r3
-by-phase R r0 r1 r2 r3 r4 r5 r6 r7 r8 r9 r10 r11 r12 r13 r14 r15 (suc (suc (suc (suc zero)))) h = r4
-by-phase R r0 r1 r2 r3 r4 r5 r6 r7 r8 r9 r10 r11 r12 r13 r14 r15 (suc (suc (suc (suc (suc zero))))) h = r5
-by-phase R r0 r1 r2 r3 r4 r5 r6 r7 r8 r9 r10 r11 r12 r13 r14 r15 (suc (suc (suc (suc (suc (suc zero)))))) h = r6
-by-phase R r0 r1 r2 r3 r4 r5 r6 r7 r8 r9 r10 r11 r12 r13 r14 r15 (suc (suc (suc (suc (suc (suc (suc zero))))))) h = r7
-by-phase R r0 r1 r2 r3 r4 r5 r6 r7 r8 r9 r10 r11 r12 r13 r14 r15 (suc (suc (suc (suc (suc (suc (suc (suc zero)))))))) h = r8
-by-phase R r0 r1 r2 r3 r4 r5 r6 r7 r8 r9 r10 r11 r12 r13 r14 r15 (suc (suc (suc (suc (suc (suc (suc (suc (suc zero))))))))) h = r9
-by-phase R r0 r1 r2 r3 r4 r5 r6 r7 r8 r9 r10 r11 r12 r13 r14 r15 (suc (suc (suc (suc (suc (suc (suc (suc (suc (suc zero)))))))))) h = r10
-by-phase R r0 r1 r2 r3 r4 r5 r6 r7 r8 r9 r10 r11 r12 r13 r14 r15 (suc (suc (suc (suc (suc (suc (suc (suc (suc (suc (suc zero))))))))))) h = r11
-by-phase R r0 r1 r2 r3 r4 r5 r6 r7 r8 r9 r10 r11 r12 r13 r14 r15 (suc (suc (suc (suc (suc (suc (suc (suc (suc (suc (suc (suc zero)))))))))))) h = r12
-by-phase R r0 r1 r2 r3 r4 r5 r6 r7 r8 r9 r10 r11 r12 r13 r14 r15 (suc (suc (suc (suc (suc (suc (suc (suc (suc (suc (suc (suc (suc zero))))))))))))) h = r13
-by-phase R r0 r1 r2 r3 r4 r5 r6 r7 r8 r9 r10 r11 r12 r13 r14 r15 (suc (suc (suc (suc (suc (suc (suc (suc (suc (suc (suc (suc (suc (suc zero)))))))))))))) h = r14
-by-phase R r0 r1 r2 r3 r4 r5 r6 r7 r8 r9 r10 r11 r12 r13 r14 r15 (suc (suc (suc (suc (suc (suc (suc (suc (suc (suc (suc (suc (suc (suc (suc zero))))))))))))))) h = r15
-by-phase R r0 r1 r2 r3 r4 r5 r6 r7 r8 r9 r10 r11 r12 r13 r14 r15 (suc (suc (suc (suc (suc (suc (suc (suc (suc (suc (suc (suc (suc (suc (suc (suc n)))))))))))))))) h = absurd (omega arith)
+-- by the number of a phase that there is
+pub by-phase : (R : ℕ → Type 0) → R 0 → R 1 → R 2 → R 3 → R 4 → R 5 → R 6 → R 7 → R 8 → R 9 → R 11 → R 12 → R 13 → R 14 → R 15 → (n : ℕ) → Phase n → R n
+by-phase R r0 r1 r2 r3 r4 r5 r6 r7 r8 r9 r11 r12 r13 r14 r15 zero h = r0
+by-phase R r0 r1 r2 r3 r4 r5 r6 r7 r8 r9 r11 r12 r13 r14 r15 (suc zero) h = r1
+by-phase R r0 r1 r2 r3 r4 r5 r6 r7 r8 r9 r11 r12 r13 r14 r15 (suc (suc zero)) h = r2
+by-phase R r0 r1 r2 r3 r4 r5 r6 r7 r8 r9 r11 r12 r13 r14 r15 (suc (suc (suc zero))) h = r3
+by-phase R r0 r1 r2 r3 r4 r5 r6 r7 r8 r9 r11 r12 r13 r14 r15 (suc (suc (suc (suc zero)))) h = r4
+by-phase R r0 r1 r2 r3 r4 r5 r6 r7 r8 r9 r11 r12 r13 r14 r15 (suc (suc (suc (suc (suc zero))))) h = r5
+by-phase R r0 r1 r2 r3 r4 r5 r6 r7 r8 r9 r11 r12 r13 r14 r15 (suc (suc (suc (suc (suc (suc zero)))))) h = r6
+by-phase R r0 r1 r2 r3 r4 r5 r6 r7 r8 r9 r11 r12 r13 r14 r15 (suc (suc (suc (suc (suc (suc (suc zero))))))) h = r7
+by-phase R r0 r1 r2 r3 r4 r5 r6 r7 r8 r9 r11 r12 r13 r14 r15 (suc (suc (suc (suc (suc (suc (suc (suc zero)))))))) h = r8
+by-phase R r0 r1 r2 r3 r4 r5 r6 r7 r8 r9 r11 r12 r13 r14 r15 (suc (suc (suc (suc (suc (suc (suc (suc (suc zero))))))))) h = r9
+by-phase R r0 r1 r2 r3 r4 r5 r6 r7 r8 r9 r11 r12 r13 r14 r15 (suc (suc (suc (suc (suc (suc (suc (suc (suc (suc zero)))))))))) h = absurd (h .1 refl)
+by-phase R r0 r1 r2 r3 r4 r5 r6 r7 r8 r9 r11 r12 r13 r14 r15 (suc (suc (suc (suc (suc (suc (suc (suc (suc (suc (suc zero))))))))))) h = r11
+by-phase R r0 r1 r2 r3 r4 r5 r6 r7 r8 r9 r11 r12 r13 r14 r15 (suc (suc (suc (suc (suc (suc (suc (suc (suc (suc (suc (suc zero)))))))))))) h = r12
+by-phase R r0 r1 r2 r3 r4 r5 r6 r7 r8 r9 r11 r12 r13 r14 r15 (suc (suc (suc (suc (suc (suc (suc (suc (suc (suc (suc (suc (suc zero))))))))))))) h = r13
+by-phase R r0 r1 r2 r3 r4 r5 r6 r7 r8 r9 r11 r12 r13 r14 r15 (suc (suc (suc (suc (suc (suc (suc (suc (suc (suc (suc (suc (suc (suc zero)))))))))))))) h = r14
+by-phase R r0 r1 r2 r3 r4 r5 r6 r7 r8 r9 r11 r12 r13 r14 r15 (suc (suc (suc (suc (suc (suc (suc (suc (suc (suc (suc (suc (suc (suc (suc zero))))))))))))))) h = r15
+by-phase R r0 r1 r2 r3 r4 r5 r6 r7 r8 r9 r11 r12 r13 r14 r15 (suc (suc (suc (suc (suc (suc (suc (suc (suc (suc (suc (suc (suc (suc (suc (suc n)))))))))))))))) h = absurd (omega arith)
 
 -- what holds either way holds of the choice
 pub by-test : {A : Type 0} (R : A → Type 0) (b : Bool) (x y : A) → (b ≡ true → R x) → (b ≡ false → R y) → R (cond b x y)
@@ -55,5 +57,5 @@ implied true b t k = t
 implied false b t k = absurd k
 
 -- one test of a phase gives another, where the checker finds so at all sixteen
-pub phase-gives : (a b : ℕ → Bool) → T (below 16 (λ n. not (a n) || b n)) → (n : ℕ) → n ≤ 15 → T (a n) → T (b n)
-phase-gives a b t n h = implied (a n) (b n) (each-below (λ k. not (a k) || b k) 16 t n (omega arith))
+pub phase-gives : (a b : ℕ → Bool) → T (below 16 (λ n. not (a n) || b n)) → (n : ℕ) → Phase n → T (a n) → T (b n)
+phase-gives a b t n h = implied (a n) (b n) (each-below (λ k. not (a k) || b k) 16 t n (omega (arith, h .0)))

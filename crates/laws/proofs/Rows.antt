@@ -1,24 +1,25 @@
 -- A step that is made is one of the rows of specs/Moves. Nothing after this looks at a test or at a refused step again. Assumes nothing.
 use Prim.Native.Nat.{ℕ, _+_, _-_, _≤_, _<_}
 use native.Mathlib.Omega.{arith}
-use native.Mathlib.Decide.{decLe}
+use native.Mathlib.Decide.{ℕ-discrete, decLe}
 use mathlib.Core.Path.{_≡_}
+use mathlib.Core.Logic.{inl, inr}
 use lib.Dec.{eqb, ltb}
 use lib.ListN.{getD}
 use borrow.Author.Tests.{ltb-false, eqb-true, eqb-false}
 use Rattle.tasks.specs.Records.{onward, probing}
-use Rattle.steps.specs.Table.{after, raisedOf, loweredOf, counting, rows, beyond, effectOf}
-use Rattle.steps.proofs.Rows.{effect-beyond}
+use Rattle.steps.specs.Table.{after, raisedOf, loweredOf, counting, leaving, rows, noPhase, effectOf}
+use Rattle.steps.proofs.Rows.{effect-none}
 use Rattle.laws.specs.Types.{Reply, Moved, Lost, Released, NodeNo, Task, Seen, Count, Counted, To, Broken, Deed, Effect, Does, Refuses}
-pub use Rattle.laws.specs.Moves.{deed, raised, lowered, Moves, l1, l2, l3-passed, l3-turned, l4, l5, s1, s2-swapped, s2-missed, s3, s4-took, s4-shared, s5, s6-took, s6-busy, s7, r1, v1-good, v1-gone}
+pub use Rattle.laws.specs.Moves.{deed, raised, lowered, Moves, l1, l2, l3-passed, l3-turned, l4, l5, s1, s2-swapped, s2-missed, s3-took, s3-shared, s5, s6-took, s6-busy, s7, r1, v1-good, v1-gone}
 use Rattle.laws.proofs.Phases.{by-phase, by-test}
 
 -- a step that counts is refused, or the count is as it must be
-pub by-lowered : (R : Counted → Type 0) (v : NodeNo) (c : ℕ) → R Broken → (0 < c → R (To (Count v (c - 1)))) → R (loweredOf v c)
+pub by-lowered : (R : Counted → Type 0) (v : NodeNo) (c : ℕ) → R Broken → (0 < c → R (To (Count v (c - 1)) (c - 1))) → R (loweredOf v c)
 unfolding loweredOf
 by-lowered R v c b f = by-test R (eqb c 0) _ _ (λ q. b) (λ q. f (omega (arith, eqb-false c 0 q)))
 
-pub by-raised : (R : Counted → Type 0) (p : ℕ) (v : NodeNo) (c : ℕ) → R Broken → (c ≤ p → R (To (Count v (c + 1)))) → R (raisedOf p v c)
+pub by-raised : (R : Counted → Type 0) (p : ℕ) (v : NodeNo) (c : ℕ) → R Broken → (c ≤ p → R (To (Count v (c + 1)) (c + 1))) → R (raisedOf p v c)
 unfolding raisedOf
 by-raised R p v c b f = by-test R (ltb p c) _ _ (λ q. b) (λ q. by-test R (eqb c 255) _ _ (λ w. b) (λ w. f (ltb-false p c q)))
 
@@ -30,23 +31,31 @@ module _ (t : Task) (s : Seen) where
   lowering-reads : (n : ℕ) (t′ : Task) (r : Reply) → (0 < s .«held_count» → Moves t s n (lowered t s t′ r)) → Reads n (counting (loweredOf (t .held) (s .«held_count»)) t′ r)
   lowering-reads n t′ r f = by-lowered (λ c. Reads n (counting c t′ r)) (t .held) (s .«held_count») tt f
 
+  leaving-reads : Reads 9 (leaving (loweredOf (t .held) (s .«held_count»)) t)
+  leaving-reads =
+      by-lowered (λ c. Reads 9 (leaving c t)) (t .held) (s .«held_count») tt
+      (λ h. by-test (Reads 9) (eqb (s .«held_count» - 1) 1) _ _ (λ q. s3-took (eqb-true _ _ q)) (λ q. s3-shared h (eqb-false _ _ q)))
+
   reads : Reads (t .phase) (effectOf t s)
   unfolding effectOf rows
-  reads = elim (decLe (t .phase) 15) [
-    | yes h ↦ by-phase (λ n. Reads n (getD rows n beyond t s))
-        tt l1 (by-raised (λ c. Reads 2 (counting c (onward t 3) Moved)) (s .tasks) (t .held) (s .«held_count») tt l2)
-        (by-test (Reads 3) (eqb (t .held .0) (s .here .0)) _ _ (λ q. l3-passed (eqb-true _ _ q)) (λ q. l3-turned (eqb-false _ _ q)))
-        l4 (lowering-reads 5 (onward t 1) Moved l5) tt s1
-        (by-test (Reads 8) (eqb (t .held .0) (s .here .0)) _ _ (λ q. s2-swapped (eqb-true _ _ q)) (λ q. s2-missed (eqb-false _ _ q)))
-        (lowering-reads 9 (onward t 10) Moved s3)
-        (by-test (Reads 10) (eqb (s .«held_count») 1) _ _ (λ q. s4-took (eqb-true _ _ q)) (λ q. s4-shared (eqb-false _ _ q)))
-        (lowering-reads 11 (onward (probing t (after (s .nodes) (t .held))) 12) Moved s5)
-        (by-test (Reads 12) (eqb (s .«cursor_count») 0) _ _ (λ q. s6-took (eqb-true _ _ q)) (λ q. s6-busy (eqb-false _ _ q)))
-        (lowering-reads 13 (onward t 0) Lost s7) (lowering-reads 14 (onward t 0) Released r1)
-        (by-test (Reads 15) (eqb (t .held .0) (s .here .0)) _ _ (λ q. v1-good (eqb-true _ _ q)) (λ q. v1-gone (eqb-false _ _ q)))
-        (t .phase) h
-    | no h ↦ rw (effect-beyond t s (omega arith)) tt
-  ]
+  reads =
+      elim (decLe (t .phase) 15) [
+        | no h ↦ rw (effect-none t s (inr (omega arith))) tt
+        | yes h ↦ elim (ℕ-discrete (t .phase) 10) [
+          | yes e ↦ rw (effect-none t s (inl e)) tt
+          | no ne ↦ by-phase (λ n. Reads n (getD rows n noPhase t s))
+              tt l1 (by-raised (λ c. Reads 2 (counting c (onward t 3) Moved)) (s .tasks) (t .held) (s .«held_count») tt l2)
+              (by-test (Reads 3) (eqb (t .held .0) (s .here .0)) _ _ (λ q. l3-passed (eqb-true _ _ q)) (λ q. l3-turned (eqb-false _ _ q)))
+              l4 (lowering-reads 5 (onward t 1) Moved l5) tt s1
+              (by-test (Reads 8) (eqb (t .held .0) (s .here .0)) _ _ (λ q. s2-swapped (eqb-true _ _ q)) (λ q. s2-missed (eqb-false _ _ q)))
+              leaving-reads
+              (lowering-reads 11 (onward (probing t (after (s .nodes) (t .held))) 12) Moved s5)
+              (by-test (Reads 12) (eqb (s .«cursor_count») 0) _ _ (λ q. s6-took (eqb-true _ _ q)) (λ q. s6-busy (eqb-false _ _ q)))
+              (lowering-reads 13 (onward t 0) Lost s7) (lowering-reads 14 (onward t 0) Released r1)
+              (by-test (Reads 15) (eqb (t .held .0) (s .here .0)) _ _ (λ q. v1-good (eqb-true _ _ q)) (λ q. v1-gone (eqb-false _ _ q)))
+              (t .phase) (h, ne)
+        ]
+      ]
 
   -- a step that is made is a row's
   pub moves : (d : Deed) → effectOf t s ≡ Does d → Moves t s (t .phase) d

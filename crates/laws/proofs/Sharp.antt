@@ -68,11 +68,11 @@ record Computed : Type 0 where
   most : 4 * over (loadsAt anywhere) fresh (case11 ++ gos 7 0) + 4 * ((fresh .p - 1) * over (swapsAt anywhere) fresh (case11 ++ gos 7 0)) ≡ 12
   loaded : applyOf (applied fresh (case11 ++ gos 6 0)) (go 0) .answer ≡ Replied (Loaded 9)
   loads : only-moves 6 (applied fresh case11) 0 ≡ true
-  stores : only-moves 7 (applied fresh case10) 1 ≡ true
-  took : applyOf (applied fresh (case10 ++ gos 7 1)) (go 1) .answer ≡ Replied Took
+  stores : only-moves 6 (applied fresh case10) 1 ≡ true
+  took : applyOf (applied fresh (case10 ++ gos 6 1)) (go 1) .answer ≡ Replied Took
   count : getD (applied fresh case10 .counts) 0 0 ≡ 3
-  probing : free (applied fresh (case10 ++ gos 5 1)) ≡ 2
-  busy : used (applied fresh (case10 ++ gos 8 1)) ≡ 4
+  probing : free (applied fresh (case10 ++ gos 4 1)) ≡ 2
+  busy : used (applied fresh (case10 ++ gos 7 1)) ≡ 4
 
 computed : Computed
 unfolding total over applied applyOf decisionOf judgedOf orderOf callOf loadOf storeOf linkedCallOf entryOf nonzero outside marked wordAt carriedOf inRange sizesOk every taskOk effectOf rows after raisedOf loweredOf setupOf freshOf fillTo
@@ -87,22 +87,22 @@ bound-met = (computed .steps, computed .most)
 pub gives-9 : applyOf (applied fresh (case11 ++ gos 6 0)) (go 0) .answer ≡ Replied (Loaded 9)
 gives-9 = computed .loaded
 
--- 6 steps are not enough for task 0's load there, nor N + 2P + 2 = 7 for task 1's store in case 10; its eighth takes
+-- 6 steps are not enough for task 0's load there, nor N + 2P + 1 = 6 for task 1's store in case 10; its seventh takes
 pub load-met : Within 6 (applied fresh case11) 0 → ⊥
 load-met = late 6 (applied fresh case11) 0 (computed .loads)
 
-pub store-met : Within 7 (applied fresh case10) 1 → ⊥
-store-met = late 7 (applied fresh case10) 1 (computed .stores)
+pub store-met : Within 6 (applied fresh case10) 1 → ⊥
+store-met = late 6 (applied fresh case10) 1 (computed .stores)
 
-pub takes-8 : applyOf (applied fresh (case10 ++ gos 7 1)) (go 1) .answer ≡ Replied Took
-takes-8 = computed .took
+pub takes-7 : applyOf (applied fresh (case10 ++ gos 6 1)) (go 1) .answer ≡ Replied Took
+takes-7 = computed .took
 
 -- there a count is P + 1 = 3, two nodes are free while task 1 probes, and N + 2P - 1 = 4 are in use after it
 pub count-met : getD (applied fresh case10 .counts) 0 0 ≡ 3
 count-met = computed .count
 
-pub free-met : free (applied fresh (case10 ++ gos 5 1)) ≡ 2
+pub free-met : free (applied fresh (case10 ++ gos 4 1)) ≡ 2
 free-met = computed .probing
 
-pub busy-met : used (applied fresh (case10 ++ gos 8 1)) ≡ 4
+pub busy-met : used (applied fresh (case10 ++ gos 7 1)) ≡ 4
 busy-met = computed .busy

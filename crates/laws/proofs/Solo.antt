@@ -16,6 +16,7 @@ use Rattle.tallies.specs.Tally.{bit}
 use Rattle.tallies.proofs.Tally.{bit-le, total-front, total-round, total-gap}
 use Rattle.tallies.proofs.Bounds.{total-last, round-back, round-on}
 use Rattle.tasks.specs.Records.{nodeNo}
+use Rattle.tasks.specs.Phases.{storing}
 use Rattle.steps.specs.Table.{after, effectOf}
 use Rattle.cells.specs.Machine.{seenOf, written, carriedOf}
 use Rattle.cells.specs.Apply.{applyOf}
@@ -29,7 +30,7 @@ use Rattle.laws.proofs.Keeps.{task, put-here, in-counts}
 use Rattle.laws.proofs.Table.{step-keeps}
 use Rattle.laws.proofs.Damage.{in-range, Steady, steady}
 use Rattle.laws.proofs.Room.{used-less, can-lower}
-use Rattle.laws.proofs.Rows.{Moves, l1, l2, l3-passed, l3-turned, l4, l5, s1, s2-swapped, s2-missed, s3, s4-took, s4-shared, s5, s6-took, s6-busy, s7, r1, v1-good, v1-gone, moves}
+use Rattle.laws.proofs.Rows.{Moves, l1, l2, l3-passed, l3-turned, l4, l5, s1, s2-swapped, s2-missed, s3-took, s3-shared, s5, s6-took, s6-busy, s7, r1, v1-good, v1-gone, moves}
 
 -- a call is running
 abbrev busy : ℕ → Bool
@@ -40,7 +41,7 @@ abbrev due : Machine → Task → ℕ → ℕ
 due m t f =
     let turned = 4 * bit (not (eqb (t .held .0) (getD (m .cells) (t .cell .0) 0))) in
     let all = m .n + 2 * m .p in
-    getD (0 ∷ 4 ∷ (3 + turned) ∷ (2 + turned) ∷ 1 ∷ 5 ∷ 0 ∷ (all + 3) ∷ (all + 2) ∷ (all + 1) ∷ all ∷ (all - bit (ltb 0 (getD (m .counts) (t .held .0) 0 - 1))) ∷ 0 ∷ 1 ∷ 1 ∷ 1 ∷ []) f 0
+    getD (0 ∷ 4 ∷ (3 + turned) ∷ (2 + turned) ∷ 1 ∷ 5 ∷ 0 ∷ (all + 2) ∷ (all + 1) ∷ all ∷ 0 ∷ (all - bit (ltb 0 (getD (m .counts) (t .held .0) 0 - 1))) ∷ 0 ∷ 1 ∷ 1 ∷ 1 ∷ []) f 0
 
 -- a free node is fewer than n places on
 abbrev Probes : ℕ → Machine → ℕ → Type 0
@@ -135,10 +136,12 @@ module _ (p : ℕ) where
     row n f d q e s1 K′ now = inr (refl, tt, omega arith)
     row n f d q e (s2-swapped c) K′ now = inr (refl, tt, omega arith)
     row n f d q e (s2-missed c) K′ now = inr (refl, tt, omega arith)
-    row n f d q e (s3 c) K′ now = inr (refl, tt, omega arith)
-    row n f d q e (s4-took c) K′ now = inl tt
-    row n f d q e (s4-shared c) K′ now =
-        inr (refl, tt, rw (lt-ltb 0 (getD (m .counts) (t .held .0) 0 - 1) (omega (arith, can-lower m K p hp (rw q tt)))) (omega (arith, K .sound .a-cell, K .sound .a-task)))
+    row n f d q e (s3-took c) K′ now = inl tt
+    row n f d q e (s3-shared h c) K′ now =
+        let v = t .held .0 in
+        let left = getD-set-same (m .counts) v (getD (m .counts) v 0 - 1) 0 (in-counts m K (K .sound .each p hp .held)) in
+        let some : 0 < getD (m .counts) v 0 - 1 = rw (now, left) at (can-lower (stepped m d) K′ p hp (rw now tt)) in
+        inr (refl, tt, rw (left, lt-ltb 0 (getD (m .counts) v 0 - 1 - 1) (omega arith)) (omega (arith, K .sound .a-cell, K .sound .a-task)))
     row n f d q e (s5 c) K′ now =
         let v = t .held .0 in
         let hv = K .sound .each p hp .held in
@@ -175,27 +178,27 @@ module _ (p : ℕ) where
     load-solo b =
         let r = by-phase (λ f. T (within 1 5 f) → T (busy f) × Enough 7 m (task m p) f) (λ k. absurd k) (λ k. (tt, omega arith)) (λ k. (tt, omega (arith, turn)))
         (λ k. (tt, omega (arith, turn))) (λ k. (tt, omega arith)) (λ k. (tt, omega arith)) (λ k. absurd k) (λ k. absurd k) (λ k. absurd k) (λ k. absurd k) (λ k. absurd k)
-        (λ k. absurd k) (λ k. absurd k) (λ k. absurd k) (λ k. absurd k) (λ k. absurd k) (task m p .phase) (K .sound .each p hp .phase) b in
+        (λ k. absurd k) (λ k. absurd k) (λ k. absurd k) (λ k. absurd k) (task m p .phase) (K .sound .each p hp .phase) b in
         solo 7 m K hp (r .0) (r .1)
       where
         turn : bit (not (eqb (task m p .held .0) (getD (m .cells) (task m p .cell .0) 0))) ≤ 1
         turn = bit-le (not (eqb (task m p .held .0) (getD (m .cells) (task m p .cell .0) 0)))
 
-    -- a store ends within N + 2P + 3: the node that it swapped out is not free where it looks for another, and it is probed last
-    pub store-sooner : T (within 7 13 (task m p .phase)) → Within (m .n + 2 * m .p + 3) m p
+    -- a store ends within N + 2P + 2: the node that it swapped out is not free where it looks for another, and it is probed last
+    pub store-sooner : T (storing (task m p .phase)) → Within (m .n + 2 * m .p + 2) m p
     store-sooner b =
         let all = m .n + 2 * m .p in
-        let r = by-phase (λ f. task m p .phase ≡ f → T (within 7 13 f) → T (busy f) × Enough (all + 3) m (task m p) f)
+        let r = by-phase (λ f. task m p .phase ≡ f → T (storing f) → T (busy f) × Enough (all + 2) m (task m p) f)
         (λ q k. absurd k) (λ q k. absurd k) (λ q k. absurd k) (λ q k. absurd k) (λ q k. absurd k) (λ q k. absurd k) (λ q k. absurd k) (λ q k. (tt, omega arith))
-        (λ q k. (tt, omega arith)) (λ q k. (tt, omega arith)) (λ q k. (tt, omega (arith, K .sound .a-cell)))
+        (λ q k. (tt, omega arith)) (λ q k. (tt, omega (arith, K .sound .a-cell)))
         (λ q k. (tt, omega (arith, K .sound .a-cell, K .sound .a-task, bit-le (ltb 0 (getD (m .counts) (task m p .held .0) 0 - 1)))))
-        (λ q k. (tt, found-from m K p hp q (task m p .cursor .0) (all + 3) (K .sound .each p hp .cursor) (omega arith)))
+        (λ q k. (tt, found-from m K p hp q (task m p .cursor .0) (all + 2) (K .sound .each p hp .cursor) (omega arith)))
         (λ q k. (tt, omega arith)) (λ q k. absurd k) (λ q k. absurd k) (task m p .phase) (K .sound .each p hp .phase) refl b in
-        solo (all + 3) m K hp (r .0) (r .1)
+        solo (all + 2) m K hp (r .0) (r .1)
 
-    -- so within N + 2P + 4
-    pub store-solo : T (within 7 13 (task m p .phase)) → Within (m .n + 2 * m .p + 4) m p
-    store-solo b = more (m .n + 2 * m .p + 3) (m .n + 2 * m .p + 4) m p (omega arith) (store-sooner b)
+    -- so within N + 2P + 3
+    pub store-solo : T (storing (task m p .phase)) → Within (m .n + 2 * m .p + 3) m p
+    store-solo b = more (m .n + 2 * m .p + 2) (m .n + 2 * m .p + 3) m p (omega arith) (store-sooner b)
 
     -- a release ends at its one step
     pub release-solo : task m p .phase ≡ 14 → Within 1 m p

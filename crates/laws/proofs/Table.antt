@@ -1,5 +1,5 @@
 -- Every row of the step table and every call begun keep `Kept`, and so does every entry. Assumes nothing.
-use Prim.Native.Nat.{ℕ, _+_, _≤_, _<_}
+use Prim.Native.Nat.{ℕ, _+_, _-_, _≤_, _<_}
 use native.Mathlib.Omega.{arith}
 use native.Mathlib.Nat.{mod-lt}
 use mathlib.Core.Path.{_≡_, refl, sym, ap, _∙_}
@@ -11,7 +11,7 @@ use lib.Seq.{getD-set-same, getD-set-other}
 use lib.Dec.{T, eqb}
 use borrow.Author.Tests.{ne-eqb}
 use Rattle.tallies.specs.Tally.{bit, tally}
-use Rattle.tallies.proofs.Tally.{tally-set, tally-at, tally-two, up-at, bit-eq, put-at}
+use Rattle.tallies.proofs.Tally.{tally-set, tally-at, tally-two, up-at, down-at, bit-eq, put-at}
 use Rattle.wire.specs.Bytes.{wordAt}
 use Rattle.tasks.specs.Calls.{begunOf}
 use Rattle.tasks.specs.Records.{cellNo, noTask, onward, holding, owning, probing}
@@ -22,13 +22,13 @@ use Rattle.cells.specs.Machine.{seenOf, written}
 use Rattle.cells.specs.Apply.{applyOf}
 use Rattle.laws.specs.Types.{CellNo, NodeNo, TaskNo, Task, Load, Store, Release, Validate, Nothing, Point, Count, Value, Deed, Does, Machine}
 use Rattle.laws.specs.Meaning.{points, claims, pointers}
-use Rattle.laws.specs.Kept.{InRange, Kept}
+use Rattle.laws.specs.Kept.{Phase, InRange, Kept}
 use Rattle.laws.proofs.Phases.{implied}
 use Rattle.laws.proofs.Entries.{by-entry, taskNo}
-use Rattle.laws.proofs.Rows.{Moves, l1, l2, l3-passed, l3-turned, l4, l5, s1, s2-swapped, s2-missed, s3, s4-took, s4-shared, s5, s6-took, s6-busy, s7, r1, v1-good, v1-gone, moves}
+use Rattle.laws.proofs.Rows.{Moves, l1, l2, l3-passed, l3-turned, l4, l5, s1, s2-swapped, s2-missed, s3-took, s3-shared, s5, s6-took, s6-busy, s7, r1, v1-good, v1-gone, moves}
 use Rattle.laws.proofs.Keeps.{task, in-list, in-counts, in-values, in-cells, pointed, own-apart, part, pairs, tame, Calm, Leaves, stepped, calm, alone, lowers, claiming}
 
-in-phase : {n k : ℕ} {t : Task} (f : ℕ) → f ≤ 15 → InRange n k t → InRange n k (onward t f)
+in-phase : {n k : ℕ} {t : Task} (f : ℕ) → Phase f → InRange n k t → InRange n k (onward t f)
 in-phase f h r = record { phase = h; cell = r .cell; held = r .held; own = r .own; cursor = r .cursor }
 
 module _ (m : Machine) (K : Kept m) (p : TaskNo) (hp : p .0 < m .p) where
@@ -47,7 +47,7 @@ module _ (m : Machine) (K : Kept m) (p : TaskNo) (hp : p .0 < m .p) where
 
   -- going on from phase a to phase b, where the record then claims, holds and owns no more
   abbrev Gently : ℕ → ℕ → Type 0
-  Gently a b = (b ≤ 15) × (b ≢ 8) × ((i : ℕ) → claims i (at b) ≤ claims i (at a)) × T (not (passed b) || passed a) × T (not (live b) || live a)
+  Gently a b = Phase b × (b ≢ 8) × ((i : ℕ) → claims i (at b) ≤ claims i (at a)) × T (not (passed b) || passed a) × T (not (live b) || live a)
 
   onward-calm : (a b : ℕ) (e : t ≡ at a) → Gently a b → Calm m K p hp (at a) e (at b)
   onward-calm a b e g = record {
@@ -113,19 +113,21 @@ module _ (m : Machine) (K : Kept m) (p : TaskNo) (hp : p .0 < m .p) where
       swing : (i : ℕ) → tally (points i) (m .n) (set (m .cells) (t .cell .0) (t .own .0)) + bit (eqb (t .held .0) i) ≡ pointers m i + bit (eqb (t .own .0) i)
       swing i = rw (sym q) at (tally-set (points i) (m .n) (m .cells) (t .cell .0) (t .own .0) 0 (in-t .cell) (in-cells m K (in-t .cell)))
 
-  -- S4 finds the count of m at 1: the task itself is all that holds it
-  s4-keeps : (e : t ≡ at 10) → getD (m .counts) (t .held .0) 0 ≡ 1 → Leaves m K p hp (at 10) e (onward (owning t (t .held)) 0) Nothing
-  s4-keeps e one =
+  -- S3 leaves a count of 1: the task itself is all that holds m, and nothing else claims it
+  s3-keeps : (e : t ≡ at 9) → getD (m .counts) (t .held .0) 0 - 1 ≡ 1
+      → Leaves m K p hp (at 9) e (onward (owning t (t .held)) 0) (Count (t .held) (getD (m .counts) (t .held .0) 0 - 1))
+  s3-keeps e one =
       let v = t .held .0 in
-      claiming m K p hp (at 10) e (t .held) (m .counts) (in-t .held)
-      (omega (arith, K .counted v (in-t .held), part m K p hp (at 10) e (keeps v), bit-eq v v refl))
+      claiming m K p hp (at 9) e (t .held) (set (m .counts) v (getD (m .counts) v 0 - 1)) (in-t .held)
+      (omega (arith, K .counted v (in-t .held), part m K p hp (at 9) e (claims v), part m K p hp (at 9) e (keeps v), bit-eq v v refl))
       (λ x hx nx. omega (
         arith,
         K .counted v (in-t .held),
         bit-eq v v refl,
+        part m K p hp (at 9) e (claims v),
         rw e at (tally-two (keeps v) (m .p) (m .tasks) x (p .0) noTask nx hx (in-list m K hx) hp (in-list m K hp)),
       ))
-      (λ i. refl) (λ i h. refl)
+      (λ i h. omega (arith, down-at (m .counts) v i (in-counts m K (in-t .held)) (omega arith)))
 
   -- S6 finds a count of 0: nothing points at, claims or holds the node
   s6-keeps : (e : t ≡ at 12) → getD (m .counts) (t .cursor .0) 0 ≡ 0 → Leaves m K p hp (at 12) e (onward (owning t (t .cursor)) 0) (Count (t .cursor) 1)
@@ -133,7 +135,7 @@ module _ (m : Machine) (K : Kept m) (p : TaskNo) (hp : p .0 < m .p) where
       let u = t .cursor .0 in
       claiming m K p hp (at 12) e (t .cursor) (set (m .counts) u 1) (in-t .cursor) (omega (arith, K .counted u (in-t .cursor)))
       (λ x hx nx. omega (arith, K .counted u (in-t .cursor), tally-at (keeps u) (m .p) (m .tasks) x noTask hx (in-list m K hx)))
-      (λ i. refl) (λ i h. omega (arith, rw z at (up-at (m .counts) u i (in-counts m K (in-t .cursor)))))
+      (λ i h. omega (arith, rw z at (up-at (m .counts) u i (in-counts m K (in-t .cursor)))))
 
   row-keeps : {n : ℕ} {d : Deed} → Moves t (seenOf m t) n d → (e : t ≡ at n) → Leaves m K p hp (at n) e (d .task) (d .write)
   row-keeps l1 e =
@@ -152,9 +154,8 @@ module _ (m : Machine) (K : Kept m) (p : TaskNo) (hp : p .0 < m .p) where
   row-keeps s1 e = s1-keeps e
   row-keeps (s2-swapped q) e = s2-keeps e q
   row-keeps (s2-missed q) e = goes 8 13 e (omega arith) (λ i. omega arith)
-  row-keeps (s3 h) e = lowers m K p hp (at 9) e (at 10) h (onward-calm 9 10 e (omega arith)) (λ i. omega arith)
-  row-keeps (s4-took q) e = s4-keeps e q
-  row-keeps (s4-shared q) e = goes 10 11 e (omega arith) (λ i. omega arith)
+  row-keeps (s3-took q) e = s3-keeps e q
+  row-keeps (s3-shared h q) e = lowers m K p hp (at 9) e (at 11) h (onward-calm 9 11 e (omega arith)) (λ i. omega arith)
   row-keeps (s5 h) e = lowers m K p hp (at 11) e _ h (probes 11 e (t .held)) (λ i. omega arith)
   row-keeps (s6-took q) e = s6-keeps e q
   row-keeps (s6-busy q) e = alone m K p hp (at 12) e _ (probes 12 e (t .cursor)) (λ i. omega arith)

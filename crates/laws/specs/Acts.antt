@@ -33,7 +33,7 @@ standing values f t =
     cond (eqb f 4) (acted (value (getD values (t .held .0) 0)))
     (cond (within 1 5 f) (asked (load (t .cell .0)))
     (cond (within 7 8 f) (asked (store (t .cell .0) (t .value)))
-    (cond (within 9 12 f) (acted took)
+    (cond (eqb f 9 || within 11 12 f) (acted took)
     (cond (eqb f 13) (acted lost)
     (cond (eqb f 14) (asked (release (t .cell .0)))
     (cond (eqb f 15) (asked (validate (t .cell .0)))

@@ -32,9 +32,13 @@ Ready vs t = t .phase ≡ 8 → getD vs (t .own .0) 0 ≡ t .value
 abbrev pub Written : Machine → Type 0
 Written m = (x : ℕ) → x < m .p → Ready (m .values) (getD (m .tasks) x noTask)
 
+-- there is such a phase
+abbrev pub Phase : ℕ → Type 0
+Phase f = (f ≤ 15) × (f ≢ 10)
+
 -- a task's record is in range for n cells and k nodes
 pub record InRange (n k : ℕ) (t : Task) : Type 0 where
-  pub phase : t .phase ≤ 15
+  pub phase : Phase (t .phase)
   pub cell : t .cell .0 < n
   pub held : t .held .0 < k
   pub own : t .own .0 < k

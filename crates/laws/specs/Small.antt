@@ -24,4 +24,4 @@ case10 = load 0 0 ∷ gos 4 0 ++ load 1 0 ∷ gos 4 1 ++ store 1 0 9 ∷ []
 
 -- case 11: task 0 does L1, and task 1 loads and stores 9
 abbrev pub case11 : List (List ℕ)
-case11 = load 0 0 ∷ go 0 ∷ load 1 0 ∷ gos 4 1 ++ store 1 0 9 ∷ gos 4 1
+case11 = load 0 0 ∷ go 0 ∷ load 1 0 ∷ gos 4 1 ++ store 1 0 9 ∷ gos 3 1

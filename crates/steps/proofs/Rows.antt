@@ -1,15 +1,17 @@
 -- The row that a known phase picks. Assumes nothing.
 use Prim.Native.Nat.{ℕ, _≤_}
 use mathlib.Core.Path.{_≡_, refl}
+use mathlib.Core.Logic.{_⊎_, inl, inr}
 use lib.ListN.{getD, List·getD-eq-default}
 use Rattle.steps.specs.Types.{Task, Seen}
-use Rattle.steps.specs.Table.{rows, beyond, effectOf}
+use Rattle.steps.specs.Table.{rows, noPhase, effectOf}
 
-pub effect-at : (t : Task) (s : Seen) (n : ℕ) → t .phase ≡ n → effectOf t s ≡ getD rows n beyond t s
+pub effect-at : (t : Task) (s : Seen) (n : ℕ) → t .phase ≡ n → effectOf t s ≡ getD rows n noPhase t s
 unfolding effectOf
 effect-at t s n e = rw e refl
 
--- no row is left past 15
-pub effect-beyond : (t : Task) (s : Seen) → 16 ≤ t .phase → effectOf t s ≡ beyond t s
+-- 10 has no row, nor has a number past 15
+pub effect-none : (t : Task) (s : Seen) → (t .phase ≡ 10) ⊎ (16 ≤ t .phase) → effectOf t s ≡ noPhase t s
 unfolding effectOf rows
-effect-beyond t s h = rw (List·getD-eq-default rows beyond h)
+effect-none t s (inl e) = rw e refl
+effect-none t s (inr h) = rw (List·getD-eq-default rows noPhase h)

@@ -12,20 +12,21 @@ use Rattle.steps.specs.Types.{NodeNo, Task, Reply, Moved, Loaded, Took, 
 unfoldable pub after : ℕ → NodeNo → NodeNo
 after k v = nodeNo (cond (eqb k 0) 0 ((v .0 + 1) % k))
 
--- the count c of node v up by 1; a record of p tasks is damaged where it would go past p + 1 (or past a byte, where p is 255)
+-- the count c of node v up by 1, and the number then there; a record of p tasks is damaged where it would go past p + 1 (or past a byte, where
+-- p is 255)
 unfoldable pub raisedOf : ℕ → NodeNo → ℕ → Counted
-raisedOf p v c = cond (ltb p c) Broken (cond (eqb c 255) Broken (To (Count v (c + 1))))
+raisedOf p v c = cond (ltb p c) Broken (cond (eqb c 255) Broken (To (Count v (c + 1)) (c + 1)))
 
--- the count c of node v down by 1; the record is damaged where it is 0
+-- the count c of node v down by 1, and the number left behind; the record is damaged where c is 0
 unfoldable pub loweredOf : NodeNo → ℕ → Counted
-loweredOf v c = cond (eqb c 0) Broken (To (Count v (c - 1)))
+loweredOf v c = cond (eqb c 0) Broken (To (Count v (c - 1)) (c - 1))
 
 abbrev pub does : Task → Write → Reply → Effect
 does t w r = Does (record { task = t; write = w; reply = r })
 
 -- a step that counts: its deed, or refusal 22
 abbrev pub counting : Counted → Task → Reply → Effect
-counting (To w) t r = does t w r
+counting (To w left) t r = does t w r
 counting Broken t r = Refuses Damaged
 
 -- the count of m
@@ -70,13 +71,13 @@ s1 t s = does (onward t 8) (Value (t .own) (t .value)) Moved
 abbrev pub s2 : Row
 s2 t s = cond (eqb (t .held .0) (s .here .0)) (does (onward t 9) (Point (t .cell) (t .own)) Moved) (does (onward t 13) Nothing Moved)
 
--- 9 S3: count of m down by 1; 10
-abbrev pub s3 : Row
-s3 t s = counting (lowering t s) (onward t 10) Moved
+-- 9 S3: count of m down by 1; if 1 is left, own becomes m, store took; 0, else 11
+abbrev pub leaving : Counted → Task → Effect
+leaving (To w left) t = cond (eqb left 1) (does (onward (owning t (t .held)) 0) w Took) (does (onward t 11) w Moved)
+leaving Broken t = Refuses Damaged
 
--- 10 S4: if count of m is 1, own becomes m, store took; 0, else 11
-abbrev pub s4 : Row
-s4 t s = cond (eqb (s .«held_count») 1) (does (onward (owning t (t .held)) 0) Nothing Took) (does (onward t 11) Nothing Moved)
+abbrev pub s3 : Row
+s3 t s = leaving (lowering t s) t
 
 -- 11 S5: count of m down by 1; cursor is (m+1) mod K; 12
 abbrev pub s5 : Row
@@ -100,16 +101,16 @@ r1 t s = counting (lowering t s) (onward t 0) Released
 abbrev pub v1 : Row
 v1 t s = cond (eqb (t .held .0) (s .here .0)) (does (onward t 6) Nothing Good) (does (onward t 6) Nothing Gone)
 
--- above 15 there is no phase
-abbrev pub beyond : Row
-beyond t s = Refuses Damaged
+-- 10, and above 15: there is no such phase
+abbrev pub noPhase : Row
+noPhase t s = Refuses Damaged
 
 unfoldable pub rows : List Row
-rows = none ∷ l1 ∷ l2 ∷ l3 ∷ l4 ∷ l5 ∷ none ∷ s1 ∷ s2 ∷ s3 ∷ s4 ∷ s5 ∷ s6 ∷ s7 ∷ r1 ∷ v1 ∷ []
+rows = none ∷ l1 ∷ l2 ∷ l3 ∷ l4 ∷ l5 ∷ none ∷ s1 ∷ s2 ∷ s3 ∷ noPhase ∷ s5 ∷ s6 ∷ s7 ∷ r1 ∷ v1 ∷ []
 
 -- what a step does is decided by the phase number
 unfoldable pub effectOf : Task → Seen → Effect
-effectOf t s = getD rows (t .phase) beyond t s
+effectOf t s = getD rows (t .phase) noPhase t s
 
 -- what an effect is answered with, and so its number and value
 abbrev pub answerOf : Effect → Answer

@@ -7,7 +7,8 @@ use tasks::Task;
 ghost use mathlib.Core.Path.{_≡_};
 ghost use mathlib.Core.Bool.{true};
 ghost use Rattle.tallies.specs.Lists.{within};
-ghost use Rattle.steps.specs.Table.{after, raisedOf, loweredOf, does, counting, s2, s4, s6, v1, effectOf};
+ghost use Rattle.tasks.specs.Phases.{storing};
+ghost use Rattle.steps.specs.Table.{after, raisedOf, loweredOf, does, counting, s2, s3, s6, v1, effectOf};
 
 // What a step may look at besides its task's record: the node of x, the counts of m and of the cursor's node, the value of m, P and K.
 pub struct Seen {
@@ -27,9 +28,9 @@ pub enum Write {
     Value(NodeNo, u32),
 }
 
-// A count raised or lowered: the write that does it, or a damaged record.
+// A count raised or lowered: the write that does it and the number that it leaves, or a damaged record.
 pub enum Counted {
-    To(Write),
+    To(Write, u8),
     Broken,
 }
 
@@ -67,18 +68,18 @@ pub fn raised(p: u8, v: NodeNo, count: u8) -> Counted
         return Counted::Broken;
     }
     let up = count + 1;
-    Counted::To(Write::Count(v, up))
+    Counted::To(Write::Count(v, up), up)
 }
 
-// The one place where a count goes down.
+// The one place where a count goes down; S3 decides on the number left behind.
 pub fn lowered(v: NodeNo, count: u8) -> Counted
     ensures { λ r. ⌜ r ≡ loweredOf v count ⌝ }
 {
     if count == 0 {
         return Counted::Broken;
     }
-    let down = count - 1;
-    Counted::To(Write::Count(v, down))
+    let left = count - 1;
+    Counted::To(Write::Count(v, left), left)
 }
 
 fn done(t: Task, w: Write, r: Reply) -> Effect
@@ -95,7 +96,7 @@ fn settled(c: Counted, t: Task, r: Reply) -> Effect
     ensures { λ e. ⌜ e ≡ counting c t r ⌝ }
 {
     match c {
-        Counted::To(w) => done(t, w, r),
+        Counted::To(w, _) => done(t, w, r),
         Counted::Broken => Effect::Refuses(Refusal::Damaged),
     }
 }
@@ -138,14 +139,19 @@ fn swap_step(t: Task, s: Seen) -> Effect
     }
 }
 
-// S4: the storing task itself still holds m, so m is free for it at a count of 1.
-fn keep_step(t: Task, s: Seen) -> Effect
-    ensures { λ r. ⌜ r ≡ s4 t s ⌝ }
+// S3: the storing task itself still holds m, so m is free for it where 1 is left.
+fn leave_step(t: Task, s: Seen) -> Effect
+    ensures { λ r. ⌜ r ≡ s3 t s ⌝ }
 {
-    if s.held_count == 1 {
-        done(t.owning(t.held).onward(0), Write::Nothing, Reply::Took)
-    } else {
-        done(t.onward(11), Write::Nothing, Reply::Moved)
+    match lowered(t.held, s.held_count) {
+        Counted::To(w, left) => {
+            if left == 1 {
+                done(t.owning(t.held).onward(0), w, Reply::Took)
+            } else {
+                done(t.onward(11), w, Reply::Moved)
+            }
+        }
+        Counted::Broken => Effect::Refuses(Refusal::Damaged),
     }
 }
 
@@ -165,9 +171,9 @@ fn seek_step(t: Task, s: Seen) -> Effect
     }
 }
 
-// Phases 7 to 13.
+// Phases 7 to 9 and 11 to 13.
 fn store_step(t: Task, s: Seen) -> Effect
-    requires { ⌜ within 7 13 (t .phase) ≡ true ⌝ }
+    requires { ⌜ storing (t .phase) ≡ true ⌝ }
     ensures { λ r. ⌜ r ≡ effectOf t s ⌝ }
 {
     let f = t.phase;
@@ -177,8 +183,7 @@ fn store_step(t: Task, s: Seen) -> Effect
             done(t.onward(8), Write::Value(o, t.value), Reply::Moved)
         }
         8 => swap_step(t, s),
-        9 => settled(lowered(t.held, s.held_count), t.onward(10), Reply::Moved),
-        10 => keep_step(t, s),
+        9 => leave_step(t, s),
         11 => settled(
             lowered(t.held, s.held_count),
             t.probing(next_node(s.nodes, t.held)).onward(12),
@@ -210,7 +215,7 @@ pub fn step(t: Task, s: Seen) -> Effect
         0 => Effect::Refuses(Refusal::NoStep),
         1..=5 => load_step(t, s),
         6 => Effect::Refuses(Refusal::NoStep),
-        7..=13 => store_step(t, s),
+        7..=9 | 11..=13 => store_step(t, s),
         14 => settled(lowered(t.held, s.held_count), t.onward(0), Reply::Released),
         15 => validate_step(t, s),
         _ => Effect::Refuses(Refusal::Damaged),

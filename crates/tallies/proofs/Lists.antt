@@ -1,8 +1,8 @@
 -- Laws of `every`, `fillTo` and `within`, some of them one turn of a loop at a time. Assumes nothing.
 use Prim.Native.Nat.{ℕ, zero, suc, _+_, _<_, _≤_}
 use mathlib.Core.Path.{_≡_, refl, sym, _∙_}
-use mathlib.Core.Logic.{_≢_}
-use mathlib.Core.Bool.{Bool, true, false, cond, _&&_, false≢true}
+use mathlib.Core.Logic.{_≢_, _⊎_, inl, inr}
+use mathlib.Core.Bool.{Bool, true, false, cond, _&&_, _||_, false≢true}
 use mathlib.Core.List.{List}
 use lib.Dec.{T}
 use lib.ListN.{length, getD, set, length-set}
@@ -47,6 +47,18 @@ within-bounds a b n h = elim (decLe a n) [ yes l ↦ (l, leb-true n b (rw (le-le
 
 pub within-true : (a b n : ℕ) → a ≤ n → n ≤ b → within a b n ≡ true
 within-true a b n l r = rw (le-leb a n l, le-leb n b r)
+
+-- one of two tests that passes has its bounds
+pub within-either : (a b c d n : ℕ) → (within a b n || within c d n) ≡ true → ((a ≤ n) × (n ≤ b)) ⊎ ((c ≤ n) × (n ≤ d))
+within-either a b c d n h = split (within a b n) refl
+  where
+    split : (t : Bool) → within a b n ≡ t → ((a ≤ n) × (n ≤ b)) ⊎ ((c ≤ n) × (n ≤ d))
+    split true e = inl (within-bounds a b n e)
+    split false e = inr (within-bounds c d n (rw e at h))
+
+pub within-or : (a b c d n : ℕ) → a ≤ n → (b < n → c ≤ n) → n ≤ d → (within a b n || within c d n) ≡ true
+within-or a b c d n l m r =
+    elim (decLe n b) [ yes h ↦ rw (le-leb a n l, le-leb n b h) | no h ↦ rw (le-leb a n l, lt-leb n b (omega arith), le-leb c n (m (omega arith)), le-leb n d r) ]
 
 -- two tests that hold together hold each
 pub both : (a b : Bool) → (a && b) ≡ true → (a ≡ true) × (b ≡ true)

@@ -1,5 +1,5 @@
 pub mod Types
-pub mod Records
 pub mod Phases
+pub mod Records
 pub mod Calls
 pub mod Holders

@@ -1,8 +1,9 @@
 -- A task's record with one field changed, and the ranges of its fields.
 use Prim.Native.Nat.{ℕ}
 use mathlib.Core.Bool.{Bool, _&&_}
-use lib.Dec.{leb, ltb}
+use lib.Dec.{ltb}
 use Rattle.tasks.specs.Types.{CellNo, NodeNo, Task}
+use Rattle.tasks.specs.Phases.{isPhase}
 
 abbrev pub cellNo : ℕ → CellNo
 cellNo i = record { 0 = i }
@@ -30,6 +31,6 @@ owning t v = record { phase = t .phase; cell = t .cell; value = t .value; held =
 abbrev pub probing : Task → NodeNo → Task
 probing t v = record { phase = t .phase; cell = t .cell; value = t .value; held = t .held; own = t .own; cursor = v }
 
--- phase at most 15; cell below N; m, own and cursor below K, in every phase
+-- phase one that there is; cell below N; m, own and cursor below K, in every phase
 unfoldable pub taskOk : ℕ → ℕ → Task → Bool
-taskOk n k t = leb (t .phase) 15 && ltb (t .cell .0) n && ltb (t .held .0) k && ltb (t .own .0) k && ltb (t .cursor .0) k
+taskOk n k t = isPhase (t .phase) && ltb (t .cell .0) n && ltb (t .held .0) k && ltb (t .own .0) k && ltb (t .cursor .0) k

@@ -87,6 +87,9 @@ impl Task {
         if 15 < self.phase {
             return false;
         }
+        if self.phase == 10 {
+            return false;
+        }
         if n <= self.cell.0 {
             return false;
         }
@@ -149,6 +152,9 @@ pub fn holds_one(t: Task, node: NodeNo) -> usize
         return 0;
     }
     if 15 < p {
+        return 0;
+    }
+    if p == 10 {
         return 0;
     }
     if p == 12 {

@@ -9,12 +9,12 @@ returns : tie.Need-returns
 unfolding loweredOf
 returns c = rw (eq-eqb _ 0 (c .if1 .taken))
 
-sub-down : tie.Need-sub-down
-sub-down c = search needs
+sub-left : tie.Need-sub-left
+sub-left c = search needs
 
 returns-2 : tie.Need-returns-2
 unfolding loweredOf
 returns-2 c = rw (ne-eqb _ 0 (c .if1 .left))
 
 pub lowered-spec : {M : Type 1} → statement M
-lowered-spec = tie.close (tie.spec returns sub-down returns-2)
+lowered-spec = tie.close (tie.spec returns sub-left returns-2)

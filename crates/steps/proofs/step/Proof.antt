@@ -1,9 +1,10 @@
 -- `step`: the phase picks the rows' function, or the refusal. Assumes nothing.
 use Prim.Native.Nat.{_≤_}
 use native.Mathlib.Omega.{arith}
-use Rattle.tallies.proofs.Lists.{within-true}
+use mathlib.Core.Logic.{inl, inr, ⊎-elim}
+use Rattle.tallies.proofs.Lists.{within-true, within-or}
 use Rattle.steps.specs.Table.{rows}
-use Rattle.steps.proofs.Rows.{effect-at, effect-beyond}
+use Rattle.steps.proofs.Rows.{effect-at, effect-none}
 use borrow.Author.Needs.{needs}
 use Rattle.steps.proofs.step.Statement.{statement}
 use Rattle.steps.proofs.step.Tie as tie
@@ -24,7 +25,9 @@ load-step-requires : tie.Need-load-step-requires
 load-step-requires c κs = within-true 1 5 (c .before .before .args .t .phase) (omega arith) (omega arith)
 
 store-step-requires : tie.Need-store-step-requires
-store-step-requires c κs = within-true 7 13 (c .before .before .before .args .t .phase) (omega arith) (omega arith)
+store-step-requires c κs =
+    let f = c .before .before .before .args .t .phase in
+    ⊎-elim (λ w. within-or 7 9 11 13 f (omega arith) (λ h. omega arith) (omega arith)) (λ w. within-or 7 9 11 13 f (omega arith) (λ h. omega arith) (omega arith)) (c .if2 .came)
 
 returns : tie.Need-returns
 unfolding rows
@@ -47,12 +50,13 @@ returns-5 : tie.Need-returns-5
 returns-5 c = search needs
 
 returns-6 : tie.Need-returns-6
-returns-6 c = search needs
+returns-6 c = let a = c .before .before .before .before .args in rw (effect-none (a .t) (a .s) (inl (omega arith)))
 
 returns-7 : tie.Need-returns-7
-returns-7 c = let a = c .before .before .before .args in
-    let late : 16 ≤ a .t .phase = omega arith in
-    rw (effect-beyond (a .t) (a .s) late)
+returns-7 c = let a = c .before .before .before .before .before .args in rw (effect-none (a .t) (a .s) (inr (omega arith)))
+
+returns-8 : tie.Need-returns-8
+returns-8 c = search needs
 
 pub step-spec : {M : Type 1} → statement M
 step-spec =
@@ -70,4 +74,5 @@ step-spec =
     returns-4
     returns-5
     returns-6
-    returns-7)
+    returns-7
+    returns-8)

@@ -1,7 +1,8 @@
--- `store_step`: rows 7 to 13 of the table. Assumes nothing.
+-- `store_step`: rows 7 to 9 and 11 to 13 of the table. Assumes nothing.
 use mathlib.Core.Path.{_≡_}
+use mathlib.Core.Logic.{⊎-elim}
 use native.Mathlib.Omega.{arith}
-use Rattle.tallies.proofs.Lists.{within-bounds}
+use Rattle.tallies.proofs.Lists.{within-either}
 use Rattle.steps.specs.Table.{rows}
 use Rattle.steps.proofs.Rows.{effect-at}
 use borrow.Author.Needs.{needs}
@@ -17,20 +18,11 @@ done-requires c κs = search needs
 swap-step-requires : tie.Need-swap-step-requires
 swap-step-requires c κs = search needs
 
+leave-step-requires : tie.Need-leave-step-requires
+leave-step-requires c κs = search needs
+
 lowered-requires : tie.Need-lowered-requires
 lowered-requires c κs = search needs
-
-onward-requires-2 : tie.Need-onward-requires-2
-onward-requires-2 c κs = search needs
-
-settled-requires : tie.Need-settled-requires
-settled-requires c κs = search needs
-
-keep-step-requires : tie.Need-keep-step-requires
-keep-step-requires c κs = search needs
-
-lowered-requires-2 : tie.Need-lowered-requires-2
-lowered-requires-2 c κs = search needs
 
 next-node-requires : tie.Need-next-node-requires
 next-node-requires c κs = search needs
@@ -38,23 +30,23 @@ next-node-requires c κs = search needs
 probing-requires : tie.Need-probing-requires
 probing-requires c κs = search needs
 
+onward-requires-2 : tie.Need-onward-requires-2
+onward-requires-2 c κs = search needs
+
+settled-requires : tie.Need-settled-requires
+settled-requires c κs = search needs
+
+seek-step-requires : tie.Need-seek-step-requires
+seek-step-requires c κs = search needs
+
+lowered-requires-2 : tie.Need-lowered-requires-2
+lowered-requires-2 c κs = search needs
+
 onward-requires-3 : tie.Need-onward-requires-3
 onward-requires-3 c κs = search needs
 
 settled-requires-2 : tie.Need-settled-requires-2
 settled-requires-2 c κs = search needs
-
-seek-step-requires : tie.Need-seek-step-requires
-seek-step-requires c κs = search needs
-
-lowered-requires-3 : tie.Need-lowered-requires-3
-lowered-requires-3 c κs = search needs
-
-onward-requires-4 : tie.Need-onward-requires-4
-onward-requires-4 c κs = search needs
-
-settled-requires-3 : tie.Need-settled-requires-3
-settled-requires-3 c κs = search needs
 
 returns : tie.Need-returns
 unfolding rows
@@ -63,35 +55,26 @@ returns c = let a = c .before .before .before .before .args in
 
 returns-2 : tie.Need-returns-2
 unfolding rows
-returns-2 c = let a = c .before .before .args in
-    rw (effect-at (a .t) (a .s) 8 (c .before .match .keys2)) (c .swap-step .ensures)
+returns-2 c = let a = c .before .before .args in rw (effect-at (a .t) (a .s) 8 (c .before .match .keys2)) (c .swap-step .ensures)
 
 returns-3 : tie.Need-returns-3
 unfolding rows
-returns-3 c = let a = c .before .before .before .before .args in
-    rw (effect-at (a .t) (a .s) 9 (c .before .before .before .match .keys3), c .settled .ensures, c .before .onward2 .ensures, c .before .before .lowered .ensures)
+returns-3 c = let a = c .before .before .args in rw (effect-at (a .t) (a .s) 9 (c .before .match .keys3)) (c .leave-step .ensures)
 
 returns-4 : tie.Need-returns-4
 unfolding rows
-returns-4 c = let a = c .before .before .args in
-    rw (effect-at (a .t) (a .s) 10 (c .before .match .keys4)) (c .keep-step .ensures)
+returns-4 c = let a = c .before .before .before .before .before .before .args in
+    rw (effect-at (a .t) (a .s) 11 (c .before .before .before .before .before .match .keys4), c .settled .ensures, c .before .onward2 .ensures, c .before .before .probing .ensures, c .before .before .before .next-node .ensures, c .before .before .before .before .lowered .ensures)
 
 returns-5 : tie.Need-returns-5
 unfolding rows
-returns-5 c = let a = c .before .before .before .before .before .before .args in
-    rw (effect-at (a .t) (a .s) 11 (c .before .before .before .before .before .match .keys5), c .settled2 .ensures, c .before .onward3 .ensures, c .before .before .probing .ensures, c .before .before .before .next-node .ensures, c .before .before .before .before .lowered2 .ensures)
+returns-5 c = let a = c .before .before .args in rw (effect-at (a .t) (a .s) 12 (c .before .match .keys5)) (c .seek-step .ensures)
 
 returns-6 : tie.Need-returns-6
 unfolding rows
-returns-6 c = let a = c .before .before .args in
-    rw (effect-at (a .t) (a .s) 12 (c .before .match .keys6)) (c .seek-step .ensures)
-
-returns-7 : tie.Need-returns-7
-unfolding rows
-returns-7 c = let a = c .before .before .before .before .args in
-    let b = within-bounds 7 13 (a .t .phase) (c .before .before .before .before .pre) in
-    let e : a .t .phase ≡ 13 = omega arith in
-    rw (effect-at (a .t) (a .s) 13 e, c .settled3 .ensures, c .before .onward4 .ensures, c .before .before .lowered3 .ensures)
+returns-6 c = let a = c .before .before .before .before .args in
+    let e : a .t .phase ≡ 13 = ⊎-elim (λ w. omega arith) (λ w. omega arith) (within-either 7 9 11 13 (a .t .phase) (c .before .before .before .before .pre)) in
+    rw (effect-at (a .t) (a .s) 13 e, c .settled2 .ensures, c .before .onward3 .ensures, c .before .before .lowered2 .ensures)
 
 pub store-step-spec : {M : Type 1} → statement M
 store-step-spec =
@@ -100,23 +83,19 @@ store-step-spec =
     onward-requires
     done-requires
     swap-step-requires
+    leave-step-requires
     lowered-requires
-    onward-requires-2
-    settled-requires
-    keep-step-requires
-    lowered-requires-2
     next-node-requires
     probing-requires
+    onward-requires-2
+    settled-requires
+    seek-step-requires
+    lowered-requires-2
     onward-requires-3
     settled-requires-2
-    seek-step-requires
-    lowered-requires-3
-    onward-requires-4
-    settled-requires-3
     returns
     returns-2
     returns-3
     returns-4
     returns-5
-    returns-6
-    returns-7)
+    returns-6)
