@@ -24,14 +24,14 @@ cases =
     sets (setup 64 0 128 (sevens 64)) 11 0 ∷
     sets (setup 64 17 128 (sevens 64)) 11 0 ∷
     -- 3. one task loads 7 and stores 9
-    runs (setup 1 1 3 (7 ∷ [])) (loads 0 0 7 ++ stores 0 0 9) (10 ∷ 0 ∷ 1 ∷ 4 ∷ 0 ∷ 1 ∷ []) ∷
+    runs (setup 1 1 3 (7 ∷ [])) (loads 0 0 7 ++ stores 0 0 9) (9 ∷ 0 ∷ 1 ∷ 4 ∷ 0 ∷ 1 ∷ []) ∷
     -- 5. a fresh task has no step to make, and no link to store by or to release
     enters mended small (gives (go 0) 17 0 0 ∷ []) ∷
     enters mended small (gives (store 0 0 9) 16 0 0 ∷ []) ∷
     enters mended small (gives (release 0) 16 0 0 ∷ []) ∷
     -- 6. a task linked to cell 0 of 2 may not store to cell 1, and there is no cell 2
     enters mended (setup 2 1 4 (7 ∷ 8 ∷ [])) (loads 0 0 7 ++ gives (store 0 1 9) 18 0 0 ∷ gives (store 0 2 9) 14 0 0 ∷ []) ∷
-    -- 9. task 0 begins a load and does L1; task 1 loads, stores 9, loads and stores 11, each store ending at S4; task 0 raises, checks, copies 11
+    -- 9. task 0 begins a load and does L1; task 1 loads, stores 9, loads and stores 11, each store ending at S3; task 0 raises, checks, copies 11
     enters mended small
     (gives (load 0 0) 0 0 0 ∷ moves 0 1
     ++ loads 1 0 7 ++ stores 1 0 9 ++ loads 1 0 9 ++ stores 1 0 11
@@ -41,15 +41,15 @@ cases =
     (gives (load 0 0) 0 0 0 ∷ moves 0 2
     ++ loads 1 0 7 ++ stores 1 0 9 ++ loads 1 0 9 ++ stores 1 0 11
     ++ moves 0 1 ++ gives (go 0) 1 0 7 ∷ []) ∷
-    -- 10. both load 7; task 1 stores 9 in eight steps, and task 0's store is lost
+    -- 10. both load 7; task 1 stores 9 in seven steps, and task 0's store is lost
     enters mended small
     (loads 0 0 7 ++ loads 1 0 7 ++ counts (3 ∷ 1 ∷ 1 ∷ 0 ∷ 0 ∷ [])
     ∷ gives (store 1 0 9) 0 1 0 ∷ moves 1 3 ++ counts (2 ∷ 1 ∷ 1 ∷ 0 ∷ 0 ∷ [])  -- S1 to S3
-    ∷ moves 1 2 ++ counts (1 ∷ 1 ∷ 1 ∷ 0 ∷ 0 ∷ [])  -- S4 and S5
+    ∷ moves 1 1 ++ counts (1 ∷ 1 ∷ 1 ∷ 0 ∷ 0 ∷ [])  -- S5
     ∷ moves 1 2 ++ gives (go 1) 2 1 0 ∷ counts (1 ∷ 1 ∷ 1 ∷ 1 ∷ 0 ∷ [])  -- S6: nodes 1 and 2 are busy, node 3 is taken
     ∷ gives (store 0 0 8) 0 0 0 ∷ moves 0 2 ++ gives (go 0) 3 0 0 ∷ counts (0 ∷ 1 ∷ 1 ∷ 1 ∷ 0 ∷ []) ∷ []) ∷  -- S1, S2, S7
     -- 11. task 0 does L1; task 1 loads and stores 9; task 0 turns back once and gives 9 after 7 more steps
-    runs small (gives (load 0 0) 0 0 0 ∷ moves 0 1 ++ loads 1 0 7 ++ stores 1 0 9 ++ moves 0 6 ++ gives (go 0) 1 0 9 ∷ []) (19 ∷ 0 ∷ 2 ∷ 12 ∷ 1 ∷ 1 ∷ []) ∷
+    runs small (gives (load 0 0) 0 0 0 ∷ moves 0 1 ++ loads 1 0 7 ++ stores 1 0 9 ++ moves 0 6 ++ gives (go 0) 1 0 9 ∷ []) (18 ∷ 0 ∷ 2 ∷ 12 ∷ 1 ∷ 1 ∷ []) ∷
     -- 12. task 0 loads and releases, and the counts are again those of the fresh record
     enters mended small
     (counts (1 ∷ 1 ∷ 1 ∷ 0 ∷ 0 ∷ [])
@@ -71,7 +71,7 @@ cases =
     ∷ gives (store 0 0 8) 0 0 0 ∷ moves 0 2 ++ gives (go 0) 3 0 0 ∷ counts (2 ∷ 1 ∷ 1 ∷ 0 ∷ 0 ∷ []) ∷ []) ∷
     -- a stale link is released as any other
     enters mended small
-    (loads 0 0 7 ++ loads 1 0 7 ++ gives (store 1 0 9) 0 1 0 ∷ moves 1 7 ++ gives (go 1) 2 1 0
+    (loads 0 0 7 ++ loads 1 0 7 ++ gives (store 1 0 9) 0 1 0 ∷ moves 1 6 ++ gives (go 1) 2 1 0
     ∷ validates 0 6 ++ gives (release 0) 0 0 0 ∷ gives (go 0) 4 0 0 ∷ []) ∷
     -- validate is refused while idle, and while a load, a store or a release runs
     enters mended small (gives (validate 0) 16 0 0 ∷ gives (load 0 0) 0 0 0 ∷ gives (validate 0) 16 0 0 ∷ []) ∷
@@ -85,4 +85,15 @@ cases =
     -- a task that isn't there; kind 5; a cell, a value and a sixth byte that are not zero
     enters mended small
     (loads 0 0 7 ++ gives (validate 2) 12 2 0 ∷ gives (entry 0 5 0 0) 13 0 0
-    ∷ gives (entry 0 4 1 0) 15 0 0 ∷ gives (entry 0 4 0 1) 15 0 0 ∷ gives (69 ∷ 78 ∷ 0 ∷ 4 ∷ 0 ∷ 1 ∷ 0 ∷ 0 ∷ 0 ∷ 0 ∷ []) 15 0 0 ∷ []) ∷ []
+    ∷ gives (entry 0 4 1 0) 15 0 0 ∷ gives (entry 0 4 0 1) 15 0 0 ∷ gives (69 ∷ 78 ∷ 0 ∷ 4 ∷ 0 ∷ 1 ∷ 0 ∷ 0 ∷ 0 ∷ 0 ∷ []) 15 0 0 ∷ []) ∷
+    -- Item 2. both load 7; task 1's S3 leaves node 0 at 2, so that S5 is next; task 0 releases, and the count is 1 before S5 is made. Document 01's
+    -- S4 looked only now and ended the store with node 0; here it goes on: S5 leaves 0, nodes 1 and 2 are busy, and node 3 is taken
+    enters mended small
+    (loads 0 0 7 ++ loads 1 0 7 ++ gives (store 1 0 9) 0 1 0 ∷ moves 1 3 ++ counts (2 ∷ 1 ∷ 1 ∷ 0 ∷ 0 ∷ [])
+    ∷ gives (release 0) 0 0 0 ∷ gives (go 0) 4 0 0 ∷ counts (1 ∷ 1 ∷ 1 ∷ 0 ∷ 0 ∷ [])
+    ∷ moves 1 1 ++ counts (0 ∷ 1 ∷ 1 ∷ 0 ∷ 0 ∷ [])
+    ∷ moves 1 2 ++ gives (go 1) 2 1 0 ∷ counts (0 ∷ 1 ∷ 1 ∷ 1 ∷ 0 ∷ []) ∷ []) ∷
+    -- and where task 0 releases before S3, that leaves 1 and the store ends there, with node 0 as its own
+    enters mended small
+    (loads 0 0 7 ++ loads 1 0 7 ++ gives (store 1 0 9) 0 1 0 ∷ moves 1 2 ++ counts (3 ∷ 1 ∷ 1 ∷ 0 ∷ 0 ∷ [])
+    ∷ gives (release 0) 0 0 0 ∷ gives (go 0) 4 0 0 ∷ gives (go 1) 2 1 0 ∷ counts (1 ∷ 1 ∷ 1 ∷ 0 ∷ 0 ∷ []) ∷ []) ∷ []

@@ -34,9 +34,9 @@ moves p k = replicate k (gives (go p) 0 p 0)
 abbrev pub loads : ℕ → ℕ → ℕ → List Line
 loads p x v = gives (load p x) 0 p 0 ∷ moves p 3 ++ gives (go p) 1 p v ∷ []
 
--- a whole store of y to cell x by task p, with nothing between, that takes at its fourth step, S4
+-- a whole store of y to cell x by task p, with nothing between, that takes at its third step, S3
 abbrev pub stores : ℕ → ℕ → ℕ → List Line
-stores p x y = gives (store p x y) 0 p 0 ∷ moves p 3 ++ gives (go p) 2 p 0 ∷ []
+stores p x y = gives (store p x y) 0 p 0 ∷ moves p 2 ++ gives (go p) 2 p 0 ∷ []
 
 -- a whole validate by task p, with nothing between, answered r
 abbrev pub validates : ℕ → ℕ → List Line

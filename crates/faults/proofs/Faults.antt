@@ -14,29 +14,29 @@ use Rattle.faults.specs.Histories.{afterwards, answered, history}
 use Rattle.faults.specs.Schedules.{atStart, cellAfter, cellDue, oldCopy, itsStore, staleLink, sameValue, asksAfter}
 use Rattle.faults.proofs.Legal.{follows-legal, legal-follows}
 
--- THE PRINTED ORDER. Entry 23 is task 1's check. It passes, so the load acts there and figure 1 gives it 11; the load ends with 7, a copy
+-- THE PRINTED ORDER. Entry 22 is task 1's check. It passes, so the load acts there and figure 1 gives it 11; the load ends with 7, a copy
 -- that is two stores old.
 pub printed-breaks : Follows atStart (history printed fresh oldCopy) → ⊥
 unfolding computing history oldCopy
 printed-breaks = follows-legal atStart (history printed fresh oldCopy)
 
-pub printed-loads : Follows atStart (history printed fresh (take 22 oldCopy)) × (answered printed fresh (take 22 oldCopy) (go 1) ≡ Replied (Loaded 7))
+pub printed-loads : Follows atStart (history printed fresh (take 21 oldCopy)) × (answered printed fresh (take 21 oldCopy) (go 1) ≡ Replied (Loaded 7))
 unfolding computing history answered oldCopy
-printed-loads = (legal-follows atStart (history printed fresh (take 22 oldCopy)) tt, refl)
+printed-loads = (legal-follows atStart (history printed fresh (take 21 oldCopy)) tt, refl)
 
--- The driver's damage. Three entries later, begun, S1 and S2, the store that rests on the old 7 takes: the cell is 8, and 11 is gone. Two
+-- The driver's damage. Three entries later, begun, S1 and S2, the store that rests on the old 7 takes: the cell is 8, and 11 is gone. One
 -- more and the task is told that its store took.
-pub printed-stores : (cellAfter printed (oldCopy ++ take 3 itsStore) ≡ 8) × (answered printed fresh (oldCopy ++ take 4 itsStore) (go 1) ≡ Replied Took)
+pub printed-stores : (cellAfter printed (oldCopy ++ take 3 itsStore) ≡ 8) × (answered printed fresh (oldCopy ++ take 3 itsStore) (go 1) ≡ Replied Took)
 unfolding computing answered oldCopy itsStore
 printed-stores = (refl, refl)
 
--- The mended table on these entries: task 1 raised the count at entry 19 and its check passed at entry 22, so entry 23 copies what the cell has.
-pub mended-copies : Follows atStart (history mended fresh oldCopy) × (answered mended fresh (take 22 oldCopy) (go 1) ≡ Replied (Loaded 11))
+-- The mended table on these entries: task 1 raised the count at entry 18 and its check passed at entry 21, so entry 22 copies what the cell has.
+pub mended-copies : Follows atStart (history mended fresh oldCopy) × (answered mended fresh (take 21 oldCopy) (go 1) ≡ Replied (Loaded 11))
 unfolding computing history answered oldCopy
 mended-copies = (legal-follows atStart (history mended fresh oldCopy) tt, refl)
 
 -- REREADING THE POINTER. Entry 16 is task 1's swap. Task 0 swapped since task 1's load, so figure 1 has the store lost and the cell at 9; the
--- swap takes and the cell is 8. Entry 22 ends the store with took.
+-- swap takes and the cell is 8. Entry 23 ends the store with took.
 pub rereading-breaks : Follows atStart (history rereading fresh staleLink) → ⊥
 unfolding computing history staleLink
 rereading-breaks = follows-legal atStart (history rereading fresh staleLink)
@@ -45,19 +45,19 @@ pub rereading-swaps : (cellAfter rereading (take 16 staleLink) ≡ 8) × (cellDu
 unfolding computing history afterwards staleLink
 rereading-swaps = (refl, refl)
 
-pub rereading-stores : Follows atStart (history rereading fresh (take 21 staleLink)) × (answered rereading fresh (take 21 staleLink) (go 1) ≡ Replied Took)
+pub rereading-stores : Follows atStart (history rereading fresh (take 22 staleLink)) × (answered rereading fresh (take 22 staleLink) (go 1) ≡ Replied Took)
 unfolding computing history answered staleLink
-rereading-stores = (legal-follows atStart (history rereading fresh (take 21 staleLink)) tt, refl)
+rereading-stores = (legal-follows atStart (history rereading fresh (take 22 staleLink)) tt, refl)
 
--- The mended table on these entries: task 1's store is lost at entry 20, and the cell stays 9. (Entry 22 finds task 1 idle: 17.)
+-- The mended table on these entries: task 1's store is lost at entry 17, and the cell stays 9. (From entry 19 on both tasks are idle: 17.)
 pub mended-remembers : Follows atStart (history mended fresh staleLink)
-    × (answered mended fresh (take 19 staleLink) (go 1) ≡ Replied Lost)
+    × (answered mended fresh (take 16 staleLink) (go 1) ≡ Replied Lost)
     × (cellAfter mended staleLink ≡ 9)
 unfolding computing history answered staleLink
 mended-remembers = (legal-follows atStart (history mended fresh staleLink) tt, refl, refl)
 
 -- COMPARING VALUES. Entry 16 is task 0's swap. Task 1 stored the same 7 since task 0's load, so figure 1 has the store lost and the cell at 7;
--- the swap takes and the cell is 8. Entry 19 ends the store with took.
+-- the swap takes and the cell is 8. Entry 18 ends the store with took.
 pub comparing-breaks : Follows atStart (history comparing fresh sameValue) → ⊥
 unfolding computing history sameValue
 comparing-breaks = follows-legal atStart (history comparing fresh sameValue)
@@ -66,11 +66,11 @@ pub comparing-swaps : (cellAfter comparing (take 16 sameValue) ≡ 8) × (cellDu
 unfolding computing history afterwards sameValue
 comparing-swaps = (refl, refl)
 
-pub comparing-stores : Follows atStart (history comparing fresh (take 18 sameValue)) × (answered comparing fresh (take 18 sameValue) (go 0) ≡ Replied Took)
+pub comparing-stores : Follows atStart (history comparing fresh (take 17 sameValue)) × (answered comparing fresh (take 17 sameValue) (go 0) ≡ Replied Took)
 unfolding computing history answered sameValue
-comparing-stores = (legal-follows atStart (history comparing fresh (take 18 sameValue)) tt, refl)
+comparing-stores = (legal-follows atStart (history comparing fresh (take 17 sameValue)) tt, refl)
 
--- The mended table on these entries: task 0's store is lost at entry 18, and the cell stays 7. (Entry 19 finds task 0 idle: 17.)
+-- The mended table on these entries: task 0's store is lost at entry 18, and the cell stays 7.
 pub mended-compares : Follows atStart (history mended fresh sameValue)
     × (answered mended fresh (take 17 sameValue) (go 0) ≡ Replied Lost)
     × (cellAfter mended sameValue ≡ 7)

@@ -28,16 +28,16 @@ oldCopy =
     load 0 0 ∷ replicate 4 (go 0)  -- 5: task 0 has loaded 7 from node 0
     ++ store 0 0 9 ∷ go 0  -- 7: it has begun a store and written 9 to its own node 1
     ∷ load 1 0 ∷ go 1  -- 9: task 1 has begun a load and read the pointer, node 0
-    ∷ replicate 3 (go 0)  -- 12: task 0's store took, and its own node is node 0
-    ++ load 0 0 ∷ replicate 4 (go 0)  -- 17: it has loaded 9 from node 1
-    ++ store 0 0 11  -- 18: it has begun the next store
-    ∷ go 1  -- 19: task 1 has copied node 0, which still holds 7
-    ∷ replicate 2 (go 0)  -- 21: task 0 has written 11 to node 0 and swapped: the cell is at node 0 again
-    ++ replicate 2 (go 1)  -- 23: task 1 has raised the count and checked
+    ∷ replicate 2 (go 0)  -- 11: task 0's store took, and its own node is node 0
+    ++ load 0 0 ∷ replicate 4 (go 0)  -- 16: it has loaded 9 from node 1
+    ++ store 0 0 11  -- 17: it has begun the next store
+    ∷ go 1  -- 18: task 1 has copied node 0, which still holds 7
+    ∷ replicate 2 (go 0)  -- 20: task 0 has written 11 to node 0 and swapped: the cell is at node 0 again
+    ++ replicate 2 (go 1)  -- 22: task 1 has raised the count and checked
 
--- what task 1 does with what it loaded: it begins a store, S1, S2, S3, S4
+-- what task 1 does with what it loaded: it begins a store, S1, S2, S3
 unfoldable pub itsStore : List (List ℕ)
-itsStore = store 1 0 8 ∷ replicate 4 (go 1)
+itsStore = store 1 0 8 ∷ replicate 3 (go 1)
 
 -- Rereading the pointer. Task 1's link is stale, but S1 takes the new node for m, so that S2 finds the cell at m.
 unfoldable pub staleLink : List (List ℕ)
@@ -46,8 +46,9 @@ staleLink =
     ++ load 1 0 ∷ replicate 4 (go 1)  -- 10: task 1 has loaded 7
     ++ store 0 0 9 ∷ replicate 2 (go 0)  -- 13: task 0 has swapped: the cell is 9, at node 1, and nobody is in S
     ++ store 1 0 8 ∷ replicate 2 (go 1)  -- 16: task 1 has read the pointer again and swapped
-    ++ replicate 3 (go 0)  -- 19: task 0 has done S3 to S5
-    ++ go 1 ∷ go 0 ∷ go 1 ∷ []  -- 22: task 1 did S3, task 0 took node 1 as its own, task 1 does S4
+    ++ go 1  -- 17: task 1 has done S3 and left node 1, which it holds but never counted, at 0
+    ∷ replicate 3 (go 0)  -- 20: task 0 has done S3 and S5 and taken node 1 as its own
+    ++ replicate 3 (go 1)  -- 23: task 1 has done S5, found node 2 busy and taken node 3
 
 -- Comparing values. Task 1 stores the same value again, so that task 0 can't see the change.
 unfoldable pub sameValue : List (List ℕ)
@@ -56,7 +57,7 @@ sameValue =
     ++ load 1 0 ∷ replicate 4 (go 1)  -- 10: task 1 has loaded 7
     ++ store 1 0 7 ∷ replicate 2 (go 1)  -- 13: task 1 has swapped: the cell is 7, at node 2, and nobody is in S
     ++ store 0 0 8 ∷ replicate 2 (go 0)  -- 16: task 0 has compared 7 with 7 and swapped
-    ++ go 1 ∷ go 0 ∷ go 0 ∷ []  -- 19: task 1 did S3, task 0 S3 and S4
+    ++ go 1 ∷ go 0 ∷ []  -- 18: task 1 did S3, and task 0's S3 leaves 1
 
 -- Comparing values in a validate. The first 13 entries are those of `sameValue`; then task 0 asks whether its link is good.
 unfoldable pub asksAfter : List (List ℕ)
