@@ -252,18 +252,34 @@ static void check_lowering(void)
     check_lowered(S3, 3, MOVED, S5);
 }
 
-/* How long a store takes alone ------------------------------------------- */
-
 static uint32_t chance(uint32_t *state)
 {
     *state = *state * 1664525 + 1013904223;
     return *state >> 16; /* the low bits of such a sequence repeat soon */
 }
 
+/* An entry that the task's phase allows. */
+static void move(struct machine *m, uint8_t task, uint32_t *state)
+{
+    const struct task *t = &m->task[task];
+
+    if (t->phase == IDLE)
+        apply_on(m, task, LOAD, (uint8_t)(chance(state) % m->cells), 0);
+    else if (t->phase != LINKED)
+        apply(m, task, GO, 0);
+    else if (chance(state) % 8 == 0)
+        apply(m, task, RELEASE, 0);
+    else
+        apply_on(m, task, STORE, t->cell, 0);
+}
+
+/* The steps that the task's store still needs if no other task moves. */
 static unsigned steps_alone(struct machine m, uint8_t task)
 {
     unsigned steps = 0;
 
+    if (m.task[task].phase < S1 || m.task[task].phase > S7)
+        return 0;
     while (m.task[task].phase != IDLE && steps < MAX_NODES + 4) {
         apply(&m, task, GO, 0);
         steps++;
@@ -271,7 +287,7 @@ static unsigned steps_alone(struct machine m, uint8_t task)
     return steps;
 }
 
-/* The most that any store needs alone, from any moment of a random schedule. */
+/* The most of these, of any task at any moment of a random schedule. */
 static unsigned longest_alone(uint8_t cells, uint8_t tasks, unsigned entries)
 {
     struct machine m = fresh(cells, tasks, (uint8_t)(cells + 2 * tasks));
@@ -279,18 +295,9 @@ static unsigned longest_alone(uint8_t cells, uint8_t tasks, unsigned entries)
     unsigned longest = 0;
 
     while (entries-- > 0) {
-        uint8_t task = (uint8_t)(chance(&state) % tasks);
-        const struct task *t = &m.task[task];
-
-        if (t->phase == IDLE)
-            apply_on(&m, task, LOAD, (uint8_t)(chance(&state) % cells), 0);
-        else if (t->phase == LINKED)
-            apply_on(&m, task, STORE, t->cell, 0);
-        else
-            apply(&m, task, GO, 0);
-
-        if (t->phase >= S1 && t->phase <= S7) {
-            unsigned steps = steps_alone(m, task);
+        move(&m, (uint8_t)(chance(&state) % tasks), &state);
+        for (uint8_t p = 0; p < tasks; p++) {
+            unsigned steps = steps_alone(m, p);
 
             longest = steps > longest ? steps : longest;
         }
