@@ -62,8 +62,8 @@ size_t kemilunda_setup_bytes(const uint8_t *input, size_t input_size);
  *   19  the first two bytes are not 45 4E
  *   20  the last entry is cut
  *
- * 22, a damaged machine (a phase above 15 is damage, for one), is never given
- * here: every run starts from a fresh machine, and no step damages one.
+ * 22, a damaged machine (one with a task in phase 10 or above 15, say), is never
+ * given here: every run starts from a fresh machine, and no step damages one.
  */
 
 /* Where a run's numbers stand in the last argument of kemilunda_run. */

@@ -44,16 +44,16 @@ store() { entry "$1" 2 "$2" "$3"; }
 release() { entry "$1" 3 0 0; }
 validate() { entry "$1" 4 0 0; }
 
-# The inputs that are also kept in examples/: document 01's cases, and one for
-# the validate of document 02's item 1.
+# The inputs that are also kept in examples/: document 01's cases, one for the
+# validate of document 02's item 1 and one for S3 as its item 2 has it.
 # shellcheck disable=SC2034
-examples="case03 case09 case10 case11 case12 case_validate"
+examples="case03 case09 case10 case11 case12 case_validate case_left"
 
 # one task loads 7 and stores 9
 case03() {
     setup 1 1 3 7
     load 0 0; go 0 4
-    store 0 0 9; go 0 4
+    store 0 0 9; go 0 3
 }
 
 # task 0 stops after L1; task 1 stores twice, and node 0 is in the cell again
@@ -61,9 +61,9 @@ case09() {
     setup 1 2 5 7
     load 0 0; go 0
     load 1 0; go 1 4
-    store 1 0 9; go 1 4
+    store 1 0 9; go 1 3
     load 1 0; go 1 4
-    store 1 0 11; go 1 4
+    store 1 0 11; go 1 3
     go 0 3
 }
 
@@ -72,7 +72,7 @@ case10() {
     setup 1 2 5 7
     load 0 0; go 0 4
     load 1 0; go 1 4
-    store 1 0 9; go 1 8
+    store 1 0 9; go 1 7
     store 0 0 8; go 0 3
 }
 
@@ -81,7 +81,7 @@ case11() {
     setup 1 2 5 7
     load 0 0; go 0
     load 1 0; go 1 4
-    store 1 0 9; go 1 4
+    store 1 0 9; go 1 3
     go 0 7
 }
 
@@ -99,7 +99,18 @@ case_validate() {
     load 0 0; go 0 4
     validate 0; go 0
     load 1 0; go 1 4
-    store 1 0 9; go 1 8
+    store 1 0 9; go 1 7
     validate 0; go 0
     store 0 0 8; go 0 3
+}
+
+# both linked; task 1 stores up to S3, which leaves 2; task 0 releases, so 1 is
+# left; task 1 goes on to S5 all the same and looks for a free node
+case_left() {
+    setup 1 2 5 7
+    load 0 0; go 0 4
+    load 1 0; go 1 4
+    store 1 0 9; go 1 3
+    release 0; go 0
+    go 1 4
 }

@@ -9,7 +9,7 @@
 #include <string.h>
 
 enum {
-    ENTRIES = 10,
+    ENTRIES = 9,
     REPLY = 8,
     ROOM = REPLY * ENTRIES,
     POOL = 4, /* where the size of the pool stands in a setup */
@@ -28,8 +28,7 @@ static const uint8_t CASE_3[] = {
     0x45, 0x4E, 0, 0, 0, 0, 0, 0, 0, 0,
     0x45, 0x4E, 0, 0, 0, 0, 0, 0, 0, 0,
     0x45, 0x4E, 0, 2, 0, 0, 9, 0, 0, 0, /* store 9 to cell 0 */
-    0x45, 0x4E, 0, 0, 0, 0, 0, 0, 0, 0, /* go, four times */
-    0x45, 0x4E, 0, 0, 0, 0, 0, 0, 0, 0,
+    0x45, 0x4E, 0, 0, 0, 0, 0, 0, 0, 0, /* go, three times */
     0x45, 0x4E, 0, 0, 0, 0, 0, 0, 0, 0,
     0x45, 0x4E, 0, 0, 0, 0, 0, 0, 0, 0,
 };
@@ -95,7 +94,7 @@ int main(void)
 
     /* the reply buffer is one byte short: the numbers say why nothing ran */
     input[POOL] = 3;
-    printf("room for 79 bytes: run %lu\n",
+    printf("room for %d bytes: run %lu\n", ROOM - 1,
            (unsigned long)kemilunda_run(input, sizeof input, replies, ROOM - 1,
                                         numbers));
     printf("%zu bytes of replies\n", bytes_touched(replies));

@@ -106,10 +106,12 @@ static void cover_store_step(struct coverage *c, struct walk *w,
     if (a.met == S2 && t->phase == S7 &&
         before->value[before->node_of[t->cell]] == before->value[t->held])
         c->lost_equal++;
-    if (a.met == S4 && a.number == TOOK)
-        c->ended_at_s4++;
-    if (a.met == S5)
+    if (a.met == S3 && a.number == TOOK)
+        c->ended_at_s3++;
+    if (a.met == S5) {
+        c->s5_at_1 += before->count[t->held] == 1;
         w->busy_met[a.task] = 0;
+    }
     if (a.met == S6 && a.number == MOVED) {
         w->busy_met[a.task]++;
         if (t->cursor == 0) {
@@ -352,7 +354,6 @@ static unsigned print_orders(FILE *out, const char *what,
 static void print_depth(FILE *out, const struct coverage *c)
 {
     fprintf(out, "depth:\n");
-    fprintf(out, "  stores ended at S4 %lu, at S6 %lu\n", c->ended_at_s4, c->ended_at_s6);
     fprintf(out, "  S6 walks past 3 busy nodes or more %lu, longest %lu\n",
             c->long_walks, c->longest_walk);
     fprintf(out, "  cursor back to node 0 %lu, in a pool of 128 %lu\n",
@@ -365,12 +366,42 @@ static void print_depth(FILE *out, const struct coverage *c)
     fprintf(out, "  most tasks busy at once %lu\n", c->most_busy);
 }
 
+/* Something that has to be met at least once. */
+struct row {
+    const char *what;
+    unsigned long met;
+};
+
+static unsigned print_rows(FILE *out, const char *call, const struct row *rows,
+                           size_t count)
+{
+    unsigned never = 0;
+
+    fprintf(out, "%ss:\n", call);
+    for (size_t i = 0; i < count; i++) {
+        fprintf(out, "  %-42s %9lu\n", rows[i].what, rows[i].met);
+        if (rows[i].met == 0) {
+            fprintf(out, "never met: %s, %s\n", call, rows[i].what);
+            never++;
+        }
+    }
+    return never;
+}
+
+static unsigned print_stores(FILE *out, const struct coverage *c)
+{
+    const struct row rows[] = {
+        { "took at S3", c->ended_at_s3 },
+        { "took at S6", c->ended_at_s6 },
+        { "at S5 with 1 on m, more were left at S3", c->s5_at_1 },
+    };
+
+    return print_rows(out, "store", rows, COUNT_OF(rows));
+}
+
 static unsigned print_validates(FILE *out, const struct validates *v)
 {
-    const struct {
-        const char *what;
-        unsigned long met;
-    } rows[] = {
+    const struct row rows[] = {
         { "good, of a cell other than 0", v->good_elsewhere },
         { "gone, though the cell's value is the same", v->gone_equal },
         { "gone at the step, good when it began", v->gone_between },
@@ -392,17 +423,8 @@ static unsigned print_validates(FILE *out, const struct validates *v)
         { "its sixth byte not zero, 15", v->for_spare },
         { "its value not zero, 15", v->for_value },
     };
-    unsigned never = 0;
 
-    fprintf(out, "validates:\n");
-    for (size_t i = 0; i < COUNT_OF(rows); i++) {
-        fprintf(out, "  %-42s %9lu\n", rows[i].what, rows[i].met);
-        if (rows[i].met == 0) {
-            fprintf(out, "never met: validate, %s\n", rows[i].what);
-            never++;
-        }
-    }
-    return never;
+    return print_rows(out, "validate", rows, COUNT_OF(rows));
 }
 
 static unsigned print_lengths(FILE *out, const struct coverage *c)
@@ -432,6 +454,8 @@ unsigned coverage_print(FILE *out, const struct coverage *c)
 
     fprintf(out, "accepted entries by phase:\n");
     for (unsigned i = 0; i < PHASES; i++) {
+        if (!is_phase(i))
+            continue;
         fprintf(out, "  phase %2u %-6s %9lu\n", i, phase_name(i), c->phase[i]);
         never += missing(out, c->phase[i], "phase", i);
     }
@@ -451,6 +475,7 @@ unsigned coverage_print(FILE *out, const struct coverage *c)
     never += print_orders(out, "setups", SETUP_ORDERS, COUNT_OF(SETUP_ORDERS),
                           c->setup_order);
     never += print_lengths(out, c);
+    never += print_stores(out, c);
     never += print_validates(out, &c->validates);
     print_depth(out, c);
     return never;

@@ -44,8 +44,9 @@ struct coverage {
     unsigned long bytes;
     unsigned long empty_schedules;
     unsigned long full_schedules;   /* of exactly 65,530 bytes */
-    unsigned long ended_at_s4;
+    unsigned long ended_at_s3;      /* stores that took with 1 left on m */
     unsigned long ended_at_s6;
+    unsigned long s5_at_1;          /* S5 with 1 on m: others lowered it since S3 */
     unsigned long long_walks;       /* three busy nodes or more before the free one */
     unsigned long longest_walk;
     unsigned long cursor_wraps;

@@ -105,7 +105,7 @@ static const struct style STYLES[] = {
     /* stalled stores: the swap comes when the cell has long moved on */
     { FEW_CELLS, 100, 100, 10, 40, 60, AT(S1) | AT(S2) | AT(S7), 150 },
     /* stalled between swap and end, old nodes pile up */
-    { FEW_CELLS, 100, 100, 10, 30, 50, AT(S3) | AT(S4) | AT(S5), 150 },
+    { FEW_CELLS, 100, 100, 10, 30, 50, AT(S3) | AT(S5), 150 },
     /* several tasks looking for a free node at the same time */
     { FEW_CELLS, 100, 100, 10, 10, 50, AT(S6) | AT(LINKED), 60 },
     /* long probing: the first free node is many cells away */
@@ -337,7 +337,7 @@ static void stop_in(struct maker *k, uint8_t task, enum kind call)
         steps = below(&k->dice, 4); /* the fourth would end it */
     } else if (call == STORE) {
         move_store(k, task);
-        steps = below(&k->dice, 3); /* the third would end one that is lost */
+        steps = below(&k->dice, 3); /* the third may end it */
     } else if (call != GO) {
         put_entry(k, task, (uint8_t)call, 0, 0);
     }

@@ -6,10 +6,10 @@ const char *phase_name(unsigned phase)
 {
     static const char *const names[PHASES] = {
         "idle", "L1", "L2", "L3", "L4", "L5", "linked",
-        "S1", "S2", "S3", "S4", "S5", "S6", "S7", "R1", "V1"
+        "S1", "S2", "S3", [S5] = "S5", "S6", "S7", "R1", "V1"
     };
 
-    return phase < PHASES ? names[phase] : "?";
+    return is_phase(phase) ? names[phase] : "?";
 }
 
 static unsigned long number32(const uint8_t *bytes)

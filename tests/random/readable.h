@@ -12,7 +12,8 @@
  */
 void readable(FILE *out, const uint8_t *input, size_t length, size_t last);
 
-/* A phase by its short name in document 01's table; V1 is validate's. */
+/* A phase by its short name in document 01's table; V1 is validate's.  "?" for
+ * a number that is no phase. */
 const char *phase_name(unsigned phase);
 
 #endif

@@ -81,7 +81,7 @@ unsigned bench_setup(struct machine *m, const uint8_t *input, size_t length,
 
 static bool task_in_range(const struct machine *m, const struct task *t)
 {
-    return t->phase < PHASES && t->cell < m->cells && t->held < m->nodes &&
+    return is_phase(t->phase) && t->cell < m->cells && t->held < m->nodes &&
            t->own < m->nodes && t->cursor < m->nodes;
 }
 
@@ -113,12 +113,14 @@ static bool raise_count(const struct machine *m, uint8_t *count)
     return true;
 }
 
-static bool lower_count(uint8_t *count)
+enum { NOT_LOWERED = -1 }; /* there was nothing to lower, which is damage */
+
+/* Gives the number left behind: a later look might find another one. */
+static int lower_count(uint8_t *count)
 {
     if (*count == 0)
-        return false;
-    --*count;
-    return true;
+        return NOT_LOWERED;
+    return --*count;
 }
 
 /*
@@ -129,6 +131,7 @@ static unsigned step(struct machine *m, struct task *t, uint32_t *value)
 {
     uint8_t *pointer = &m->node_of[t->cell];
     uint8_t *count = &m->count[t->held];
+    int left;
 
     switch (t->phase) {
     case L1:
@@ -152,7 +155,7 @@ static unsigned step(struct machine *m, struct task *t, uint32_t *value)
         return LOADED;
 
     case L5: /* too late: take the announcement back and start again */
-        if (!lower_count(count))
+        if (lower_count(count) == NOT_LOWERED)
             return DAMAGED;
         t->phase = L1;
         return MOVED;
@@ -172,13 +175,10 @@ static unsigned step(struct machine *m, struct task *t, uint32_t *value)
         return MOVED;
 
     case S3: /* the cell's share of the old node's count */
-        if (!lower_count(count))
+        left = lower_count(count);
+        if (left == NOT_LOWERED)
             return DAMAGED;
-        t->phase = S4;
-        return MOVED;
-
-    case S4: /* 1, not 0: this task still holds the old node itself */
-        if (*count == 1) {
+        if (left == 1) { /* not 0: this task still holds the old node itself */
             t->own = t->held;
             t->phase = IDLE;
             return TOOK;
@@ -186,8 +186,8 @@ static unsigned step(struct machine *m, struct task *t, uint32_t *value)
         t->phase = S5;
         return MOVED;
 
-    case S5: /* others still hold the old node: leave it and look for a free one */
-        if (!lower_count(count))
+    case S5: /* others held the old node at S3: leave it and look for a free one */
+        if (lower_count(count) == NOT_LOWERED)
             return DAMAGED;
         t->cursor = (uint8_t)((t->held + 1) % m->nodes);
         t->phase = S6;
@@ -204,13 +204,13 @@ static unsigned step(struct machine *m, struct task *t, uint32_t *value)
         return MOVED;
 
     case S7: /* lost: only the held node is given back, never the own one */
-        if (!lower_count(count))
+        if (lower_count(count) == NOT_LOWERED)
             return DAMAGED;
         t->phase = IDLE;
         return LOST;
 
     case R1:
-        if (!lower_count(count))
+        if (lower_count(count) == NOT_LOWERED)
             return DAMAGED;
         t->phase = IDLE;
         return RELEASED;
@@ -383,7 +383,8 @@ struct report bench_run(struct machine *m, const uint8_t *schedule,
 
 static bool holds_by_phase(uint8_t phase)
 {
-    return (phase >= L3 && phase <= S5) || (phase >= S7 && phase <= V1);
+    return (phase >= L3 && phase <= S3) || phase == S5 ||
+           (phase >= S7 && phase <= V1);
 }
 
 unsigned bench_holders(const struct task *list, size_t length, unsigned node,

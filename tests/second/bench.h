@@ -1,6 +1,6 @@
 /*
- * The step bench of document 01, with the validate of document 02's item 1,
- * written a second time in plain C.
+ * The step bench of document 01, changed as items 1 (validate) and 2 (lowering
+ * tells what it left) of document 02 ask, written a second time in plain C.
  *
  * Written from the documents alone, so that a slip in the proved library and
  * a slip here are unlikely to be the same one.  No globals, no exit, nothing
@@ -35,10 +35,11 @@ enum phase {
     IDLE = 0,
     L1, L2, L3, L4, L5,
     LINKED,
-    S1, S2, S3, S4, S5, S6, S7,
+    S1, S2, S3,
+    S5 = 11, S6, S7, /* 10 is no phase: item 2 let the others keep their numbers */
     R1,
     V1, /* validate's one step, which the documents know as phase 15 only */
-    PHASES
+    PHASES /* one past the last */
 };
 
 enum kind { GO = 0, LOAD, STORE, RELEASE, VALIDATE, KINDS };
@@ -106,6 +107,11 @@ struct report {
     uint32_t turned_back;
     uint32_t swaps;
 };
+
+static inline bool is_phase(unsigned phase)
+{
+    return phase <= S3 || (phase >= S5 && phase < PHASES);
+}
 
 static inline bool is_refusal(unsigned number)
 {
