@@ -56,6 +56,7 @@ fn recorded(phase: u8, x: u8, m: u8, own: u8, cursor: u8) {
 
 pub(crate) fn records() {
     recorded(15, 1, 99, 99, 99);
+    recorded(10, 0, 0, 2, 0);
     recorded(16, 0, 0, 2, 0);
     recorded(255, 0, 0, 2, 0);
     recorded(0, 2, 0, 2, 0);

@@ -17,6 +17,9 @@ fn stepped(phase: u8, count: u8) {
 pub(crate) fn steps() {
     stepped(5, 1);
     stepped(5, 0);
+    // S3 goes by what it leaves: 1 ends the store, 2 leads on to S5, and so does 0, which S5 then can't lower.
+    stepped(9, 3);
+    stepped(9, 2);
     stepped(9, 1);
     stepped(9, 0);
     stepped(11, 1);
@@ -25,12 +28,11 @@ pub(crate) fn steps() {
     stepped(13, 0);
     stepped(14, 1);
     stepped(14, 0);
-    // S4 lowers nothing: the count of 0 is met one step later.
-    stepped(10, 0);
-    // V1 lowers nothing either.
+    // V1 lowers nothing.
     stepped(15, 0);
     stepped(2, 2);
     stepped(2, 3);
     // Damage by the ranges, with a go as well as with the load above.
+    stepped(10, 1);
     stepped(16, 1);
 }

@@ -5,9 +5,9 @@
 // The setup has N 2, P 2, K 100. The groups, in this order:
 // - `N .. P .. K ..`: the sizes. N 0 and 65, P 0 and 17, K 0, 5 and 129 are damage (22 by the ranges: task byte 0, record kept, no byte written); N 64, P 16, K 6 and 128 are not.
 // - `pointer .. count ..`: of cell 1 and of node 50. Pointers from 100, which is K, and counts from 4, which is P+2, are damage.
-// - `task 0 phase ..`: its record. Own, m and cursor from 100, a cell from 2, which is N, and phases from 16 are damage.
+// - `task 0 phase ..`: its record. Own, m and cursor from 100, a cell from 2, which is N, and phases 10 and from 16 are damage.
 // - `rubbish`: what stands past N, P and K makes no difference.
-// - `task 1 phase .., count of m ..`: the entry is a go. All ranges hold but for phase 16. 10 and 15 lower nothing. 5, 9, 11, 13 and 14 can't lower 0, and 2 can't raise P+1, which is 3 (22 by the step: the entry's task byte, record kept, a run writes it as the last reply).
+// - `task 1 phase .., count of m ..`: the entry is a go. All ranges hold but for phases 10 and 16. 9 goes by the number that it leaves. 15 lowers nothing. 5, 9, 11, 13 and 14 can't lower 0, and 2 can't raise P+1, which is 3 (22 by the step: the entry's task byte, record kept, a run writes it as the last reply).
 // - `run of .. bytes`: 21 for a buffer a byte too short, a cut entry included. An empty schedule needs no buffer. 22 comes before 21.
 // - `entry of .. bytes`: an entry is its first ten bytes, and what follows changes nothing. 22 comes before 20.
 mod by_range;

@@ -81,6 +81,7 @@ pub(crate) fn phases() {
     one(2);
     one(3);
     one(9);
+    one(10);
     one(11);
     one(12);
     one(13);
