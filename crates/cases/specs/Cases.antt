@@ -86,8 +86,8 @@ cases =
     enters mended small
     (loads 0 0 7 ++ gives (validate 2) 12 2 0 ∷ gives (entry 0 5 0 0) 13 0 0
     ∷ gives (entry 0 4 1 0) 15 0 0 ∷ gives (entry 0 4 0 1) 15 0 0 ∷ gives (69 ∷ 78 ∷ 0 ∷ 4 ∷ 0 ∷ 1 ∷ 0 ∷ 0 ∷ 0 ∷ 0 ∷ []) 15 0 0 ∷ []) ∷
-    -- Item 2. both load 7; task 1's S3 leaves node 0 at 2, so that S5 is next; task 0 releases, and the count is 1 before S5 is made. Document 01's
-    -- S4 looked only now and ended the store with node 0; here it goes on: S5 leaves 0, nodes 1 and 2 are busy, and node 3 is taken
+    -- Item 2. both load 7; task 1's S3 leaves node 0 at 2, so that S5 is next; task 0 releases, and the count is 1 before S5 is made. Document 01
+    -- looked at the count only here, and ended the store with node 0. Now it goes on: S5 leaves 0, nodes 1 and 2 are busy, and node 3 is taken
     enters mended small
     (loads 0 0 7 ++ loads 1 0 7 ++ gives (store 1 0 9) 0 1 0 ∷ moves 1 3 ++ counts (2 ∷ 1 ∷ 1 ∷ 0 ∷ 0 ∷ [])
     ∷ gives (release 0) 0 0 0 ∷ gives (go 0) 4 0 0 ∷ counts (1 ∷ 1 ∷ 1 ∷ 0 ∷ 0 ∷ [])

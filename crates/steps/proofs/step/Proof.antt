@@ -1,5 +1,4 @@
 -- `step`: the phase picks the rows' function, or the refusal. Assumes nothing.
-use Prim.Native.Nat.{_≤_}
 use native.Mathlib.Omega.{arith}
 use mathlib.Core.Logic.{inl, inr, ⊎-elim}
 use Rattle.tallies.proofs.Lists.{within-true, within-or}
