@@ -376,7 +376,7 @@ static void check_refused(struct machine m, uint8_t number, uint8_t task)
     CHECK(same(&m, &before));
 }
 
-/* Every number a phase can be, of the task that moves and of another. */
+/* Every number that fits, of the task that waits; where it is no phase, of the one that moves too. */
 static void check_phases(void)
 {
     CHECK(S3 == 9 && S5 == 11 && S6 == 12 && S7 == 13 && R1 == 14 && V1 == 15);
@@ -386,10 +386,11 @@ static void check_phases(void)
 
         m.task[0].phase = (uint8_t)i;
         check_refused(m, exists ? BAD_GO : DAMAGED, exists ? 1 : 0);
-        m = small();
-        m.task[1].phase = (uint8_t)i;
-        if (!exists)
+        if (!exists) {
+            m.task[1].phase = (uint8_t)i;
+            m.task[0].phase = IDLE;
             check_refused(m, DAMAGED, 0);
+        }
     }
 }
 
@@ -452,7 +453,7 @@ static void check_runs(void)
     };
     uint8_t replies[sizeof expected];
     uint8_t untouched[sizeof expected];
-    struct machine m = small(), fresh = small();
+    struct machine m = small(), before = small();
     struct report r;
 
     memset(replies, 0xA5, sizeof replies);
@@ -462,12 +463,12 @@ static void check_runs(void)
     m.task[0].own = 5;
     r = bench_run(&m, schedule, sizeof schedule, replies, 0);
     CHECK(r.refusal == DAMAGED && r.accepted == 0);
-    m = fresh;
+    m = before;
     r = bench_run(&m, schedule, sizeof schedule, replies, 0);
     CHECK(r.refusal == TOO_LONG && r.accepted == 0);
     r = bench_run(&m, schedule, 22, replies, 23); /* the cut entry counts */
     CHECK(r.refusal == NO_ROOM && r.accepted == 0 && r.loads == 0);
-    CHECK(same(&m, &fresh));
+    CHECK(same(&m, &before));
     CHECK(memcmp(replies, untouched, sizeof replies) == 0);
 
     r = bench_run(&m, schedule, 22, replies, 24);
@@ -475,7 +476,7 @@ static void check_runs(void)
     CHECK(memcmp(replies, expected, sizeof expected) == 0);
 
     /* damage met by a step is the last reply and carries the task byte */
-    m = fresh;
+    m = before;
     m.count[0] = 3;
     memset(replies, 0xA5, sizeof replies);
     memcpy(schedule + 20, schedule + 10, ENTRY_BYTES);

@@ -93,7 +93,13 @@ cases =
     ∷ gives (release 0) 0 0 0 ∷ gives (go 0) 4 0 0 ∷ counts (1 ∷ 1 ∷ 1 ∷ 0 ∷ 0 ∷ [])
     ∷ moves 1 1 ++ counts (0 ∷ 1 ∷ 1 ∷ 0 ∷ 0 ∷ [])
     ∷ moves 1 2 ++ gives (go 1) 2 1 0 ∷ counts (0 ∷ 1 ∷ 1 ∷ 1 ∷ 0 ∷ []) ∷ []) ∷
-    -- and where task 0 releases before S3, that leaves 1 and the store ends there, with node 0 as its own
+    -- where task 0 releases before S3, S3 leaves 1 and the store ends there, with node 0 as its own
     enters mended small
     (loads 0 0 7 ++ loads 1 0 7 ++ gives (store 1 0 9) 0 1 0 ∷ moves 1 2 ++ counts (3 ∷ 1 ∷ 1 ∷ 0 ∷ 0 ∷ [])
-    ∷ gives (release 0) 0 0 0 ∷ gives (go 0) 4 0 0 ∷ gives (go 1) 2 1 0 ∷ counts (1 ∷ 1 ∷ 1 ∷ 0 ∷ 0 ∷ []) ∷ []) ∷ []
+    ∷ gives (release 0) 0 0 0 ∷ gives (go 0) 4 0 0 ∷ gives (go 1) 2 1 0 ∷ counts (1 ∷ 1 ∷ 1 ∷ 0 ∷ 0 ∷ []) ∷ []) ∷
+    -- and the other way round: task 0, which has done L1, raises the count straight after S3. The store has ended by then, where document 01 looked
+    -- at the count after the raise, and went on
+    enters mended small
+    (gives (load 0 0) 0 0 0 ∷ moves 0 1 ++ loads 1 0 7 ++ gives (store 1 0 9) 0 1 0 ∷ moves 1 2 ++ counts (2 ∷ 1 ∷ 1 ∷ 0 ∷ 0 ∷ [])
+    ∷ gives (go 1) 2 1 0 ∷ counts (1 ∷ 1 ∷ 1 ∷ 0 ∷ 0 ∷ [])
+    ∷ moves 0 1 ++ counts (2 ∷ 1 ∷ 1 ∷ 0 ∷ 0 ∷ []) ∷ gives (go 1) 17 1 0 ∷ []) ∷ []

@@ -49,7 +49,7 @@ pub rereading-stores : Follows atStart (history rereading fresh (take 22 staleLi
 unfolding computing history answered staleLink
 rereading-stores = (legal-follows atStart (history rereading fresh (take 22 staleLink)) tt, refl)
 
--- The mended table on these entries: task 1's store is lost at entry 17, and the cell stays 9. (From entry 19 on both tasks are idle: 17.)
+-- The mended table on these entries: task 1's store is lost at entry 17, and the cell stays 9. (From entry 19 on both tasks are idle, and each go is refused.)
 pub mended-remembers : Follows atStart (history mended fresh staleLink)
     × (answered mended fresh (take 16 staleLink) (go 1) ≡ Replied Lost)
     × (cellAfter mended staleLink ≡ 9)

@@ -34,7 +34,7 @@ Row = Machine → Task → Effect
 abbrev pub asWritten : TableRow → Row
 asWritten r m t = r t (seenOf m t)
 
--- the true table, phases 0 to 15
+-- the true table, by the number of the phase
 unfoldable pub table : List Row
 unfolding rows
 table = map asWritten rows
@@ -60,7 +60,7 @@ pub record Bench : Type 0 where
   pub apply : Machine → List ℕ → Applied
   pub passes : ℕ → ℕ → Bool
 
--- the true table, as document 01 mended it
+-- the true table: document 01's mended one, as document 02 changes it
 unfoldable pub mended : Bench
 mended = record { apply = applyOf; passes = checked }
 

@@ -3,12 +3,12 @@ use Prim.Native.Nat.{ℕ, _+_, _≤_, _<_}
 use native.Mathlib.Omega.{arith}
 use native.Mathlib.Decide.{decLe, decLt, ℕ-discrete}
 use mathlib.Core.Path.{_≡_, refl, sym, ap, _∙_, subst}
-use mathlib.Core.Bool.{Bool, true, not, _&&_}
+use mathlib.Core.Bool.{Bool, true, _&&_}
 use mathlib.Core.List.{List, [], _∷_}
 use lib.Dec.{eqb, leb, ltb}
 use lib.ListN.{length, getD, set, replicate, length-set, length-replicate, getD-replicate, List·getD-eq-default}
 use lib.Seq.{getD-set-same, getD-set-other, set-out}
-use borrow.Author.Tests.{le-leb, leb-true, ltb-true, eqb-false, not-true}
+use borrow.Author.Tests.{le-leb, ltb-true}
 use Rattle.tallies.specs.Lists.{every}
 use Rattle.tallies.proofs.Lists.{both, fill-past, every-at, every-same}
 use Rattle.tasks.specs.Records.{nodeNo, noTask, idleOwning, taskOk}
@@ -202,8 +202,7 @@ module _ (m : Machine) (cs vs ns : List ℕ) (ts : List Task) (C : Agree 0 (m .n
         let b = both (isPhase (t .phase) && ltb (t .cell .0) (m .n) && ltb (t .held .0) (m .k)) (ltb (t .own .0) (m .k)) (a .0) in
         let c = both (isPhase (t .phase) && ltb (t .cell .0) (m .n)) (ltb (t .held .0) (m .k)) (b .0) in
         let d = both (isPhase (t .phase)) (ltb (t .cell .0) (m .n)) (c .0) in
-        let f = both (leb (t .phase) 15) (not (eqb (t .phase) 10)) (d .0) in
-        record { phase = (leb-true _ _ (f .0), eqb-false _ _ (not-true _ (f .1))); cell = ltb-true _ _ (d .1); held = ltb-true _ _ (c .1); own = ltb-true _ _ (b .1); cursor = ltb-true _ _ (a .1) }
+        record { phase = rw (d .0) tt; cell = ltb-true _ _ (d .1); held = ltb-true _ _ (c .1); own = ltb-true _ _ (b .1); cursor = ltb-true _ _ (a .1) }
 
     seen-same : (t : Task) → InRange (m .n) (m .k) t → seenOf m t ≡ seenOf m′ t
     seen-same t r = λ i. record {

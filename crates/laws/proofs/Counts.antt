@@ -24,7 +24,7 @@ held-is ts p i few long h =
     rw (le-ltb 16 p few, n, le-ltb 16 p few, le-ltb 127 i h) (ap Count (tally-take (keeps i) p ts))
 
 module _ {m : Machine} (r : Reached m) where
-  -- a count is the cells that point at the node, the tasks outside phases 9, 11 and 12 that own it, the tasks in phase 9 with it as m, and its holders
+  -- a count is the cells that point at the node, the tasks whose own field is in use and names it, those that have just swapped it out, and its holders
   pub count-is : (i : ℕ) → i < m .k
       → getD (m .counts) i 0
       ≡ tally (points i) (m .n) (m .cells) + tally (owns i) (m .p) (m .tasks) + tally (swapped i) (m .p) (m .tasks) + holdersValue (heldAmong (m .tasks) (m .p) (nodeNo i))

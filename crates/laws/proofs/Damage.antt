@@ -9,9 +9,10 @@ use lib.Dec.{T, eqb}
 use lib.ListN.{getD}
 use borrow.Author.Tests.{lt-ltb, le-ltb, le-leb, ne-eqb}
 use Rattle.tallies.proofs.Lists.{within-true, every-true}
+use Rattle.tallies.proofs.Tally.{T→true}
 use Rattle.answers.specs.Numbers.{numberOf}
 use Rattle.tasks.specs.Records.{onward, probing, taskOk}
-use Rattle.tasks.specs.Phases.{holds}
+use Rattle.tasks.specs.Phases.{isPhase, holds}
 use Rattle.steps.specs.Table.{after, raisedOf, loweredOf, counting, leaving, rows, noPhase, effectOf}
 use Rattle.tables.specs.Tables.{sizesOk, cellOk, countOk, taskOkIn}
 use Rattle.cells.specs.Machine.{seenOf, inRange}
@@ -33,7 +34,7 @@ module _ (m : Machine) (K : Kept m) where
   unfolding taskOk
   task-ok q h =
       let r = K .sound .each q h in
-      rw (le-leb _ _ (r .phase .0), ne-eqb _ _ (r .phase .1), lt-ltb _ _ (r .cell), lt-ltb _ _ (r .held), lt-ltb _ _ (r .own), lt-ltb _ _ (r .cursor))
+      rw (T→true (isPhase (task m q .phase)) (r .phase), lt-ltb _ _ (r .cell), lt-ltb _ _ (r .held), lt-ltb _ _ (r .own), lt-ltb _ _ (r .cursor))
 
   pub in-range : inRange m ≡ true
   unfolding inRange sizesOk

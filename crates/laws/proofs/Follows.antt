@@ -167,7 +167,7 @@ module _ (m : Machine) (K : Kept m) (p : TaskNo) (hp : p .0 < m .p) (a : State) 
     where
       -- whoever passed a check holds another node than the one that the cell points at now
       gone : (y q : ℕ) → q < m .p → linkedAt (t .own .0) y (task m q) ≡ false
-      gone y q hq = unlinked (t .own .0) y (task m q) (λ k. let h : T (live 8) → t .own .0 ≢ task m q .held .0 = rw e at (K .held q (p .0) hq hp (phase-gives inSet passed tt _ (K .sound .each q hq .phase) k)) in h tt)
+      gone y q hq = unlinked (t .own .0) y (task m q) (λ k. let h : T (live 8) → t .own .0 ≢ task m q .held .0 = rw e at (K .held q (p .0) hq hp (phase-gives inSet passed tt (task m q .phase) (K .sound .each q hq .phase) k)) in h tt)
 
   -- a store that misses: no part in S[x], nor in another set
   miss-acts : t ≡ at 8 → t .held .0 ≢ node x → Matches (written m p (at 13) Nothing) (act a (p .0) (asked (store x (t .value))))

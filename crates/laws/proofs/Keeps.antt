@@ -11,13 +11,13 @@ use lib.Seq.{getD-set-same}
 use Rattle.tallies.specs.Tally.{bit, tally}
 use Rattle.tallies.proofs.Tally.{tally-set, tally-at, tally-two, down-at, bit-eq, bit-ne, bit-le, put-at, T→true}
 use Rattle.tasks.specs.Records.{noTask, onward, owning}
-use Rattle.tasks.specs.Phases.{holds, live, passed}
+use Rattle.tasks.specs.Phases.{isPhase, holds, live, passed}
 use Rattle.tasks.specs.Holders.{keeps}
 use Rattle.cells.specs.Machine.{cellsAfter, valuesAfter, countsAfter, written}
 use Rattle.cells.proofs.Written.{cells-after, values-after, counts-after}
 use Rattle.laws.specs.Types.{NodeNo, TaskNo, Task, Write, Nothing, Count, Machine}
 use Rattle.laws.specs.Meaning.{points, claims, pointers, claimers}
-use Rattle.laws.specs.Kept.{Apart, Ready, Phase, InRange, Kept}
+use Rattle.laws.specs.Kept.{Apart, Ready, InRange, Kept}
 use Rattle.laws.proofs.Phases.{phase-gives}
 
 -- task q's record
@@ -28,7 +28,7 @@ task m q = getD (m .tasks) q noTask
 pub owned : (t : Task) (i : ℕ) → T (live (t .phase)) → t .own .0 ≡ i → 1 ≤ claims i t
 owned t i l r = rw (T→true (live (t .phase)) l) (omega (arith, bit-eq (t .own .0) i r))
 
-pub kept : (t : Task) (i : ℕ) → Phase (t .phase) → T (passed (t .phase)) → t .held .0 ≡ i → 1 ≤ keeps i t
+pub kept : (t : Task) (i : ℕ) → T (isPhase (t .phase)) → T (passed (t .phase)) → t .held .0 ≡ i → 1 ≤ keeps i t
 kept t i h k r = rw (T→true (holds (t .phase)) (phase-gives passed holds tt (t .phase) h k)) (omega (arith, bit-eq (t .held .0) i r))
 
 module _ (m : Machine) (K : Kept m) where

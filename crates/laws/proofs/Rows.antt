@@ -6,10 +6,10 @@ use mathlib.Core.Path.{_≡_}
 use mathlib.Core.Logic.{inl, inr}
 use lib.Dec.{eqb, ltb}
 use lib.ListN.{getD}
-use borrow.Author.Tests.{ltb-false, eqb-true, eqb-false}
+use borrow.Author.Tests.{le-leb, ne-eqb, ltb-false, eqb-true, eqb-false}
 use Rattle.tasks.specs.Records.{onward, probing}
 use Rattle.steps.specs.Table.{after, raisedOf, loweredOf, counting, leaving, rows, noPhase, effectOf}
-use Rattle.steps.proofs.Rows.{effect-none}
+use Rattle.steps.proofs.Rows.{effect-no-phase}
 use Rattle.laws.specs.Types.{Reply, Moved, Lost, Released, NodeNo, Task, Seen, Count, Counted, To, Broken, Deed, Effect, Does, Refuses}
 pub use Rattle.laws.specs.Moves.{deed, raised, lowered, Moves, l1, l2, l3-passed, l3-turned, l4, l5, s1, s2-swapped, s2-missed, s3-took, s3-shared, s5, s6-took, s6-busy, s7, r1, v1-good, v1-gone}
 use Rattle.laws.proofs.Phases.{by-phase, by-test}
@@ -40,9 +40,9 @@ module _ (t : Task) (s : Seen) where
   unfolding effectOf rows
   reads =
       elim (decLe (t .phase) 15) [
-        | no h ↦ rw (effect-none t s (inr (omega arith))) tt
+        | no h ↦ rw (effect-no-phase t s (inr (omega arith))) tt
         | yes h ↦ elim (ℕ-discrete (t .phase) 10) [
-          | yes e ↦ rw (effect-none t s (inl e)) tt
+          | yes e ↦ rw (effect-no-phase t s (inl e)) tt
           | no ne ↦ by-phase (λ n. Reads n (getD rows n noPhase t s))
               tt l1 (by-raised (λ c. Reads 2 (counting c (onward t 3) Moved)) (s .tasks) (t .held) (s .«held_count») tt l2)
               (by-test (Reads 3) (eqb (t .held .0) (s .here .0)) _ _ (λ q. l3-passed (eqb-true _ _ q)) (λ q. l3-turned (eqb-false _ _ q)))
@@ -53,7 +53,7 @@ module _ (t : Task) (s : Seen) where
               (by-test (Reads 12) (eqb (s .«cursor_count») 0) _ _ (λ q. s6-took (eqb-true _ _ q)) (λ q. s6-busy (eqb-false _ _ q)))
               (lowering-reads 13 (onward t 0) Lost s7) (lowering-reads 14 (onward t 0) Released r1)
               (by-test (Reads 15) (eqb (t .held .0) (s .here .0)) _ _ (λ q. v1-good (eqb-true _ _ q)) (λ q. v1-gone (eqb-false _ _ q)))
-              (t .phase) (h, ne)
+              (t .phase) (rw (le-leb (t .phase) 15 h, ne-eqb (t .phase) 10 ne) tt)
         ]
       ]
 

@@ -66,10 +66,8 @@ reached-here es = reached es fresh (set-up small 10 ready)
 record Computed : Type 0 where
   steps : over (stepsAt anywhere) fresh (case11 ++ gos 7 0) ≡ 12
   most : 4 * over (loadsAt anywhere) fresh (case11 ++ gos 7 0) + 4 * ((fresh .p - 1) * over (swapsAt anywhere) fresh (case11 ++ gos 7 0)) ≡ 12
-  loaded : applyOf (applied fresh (case11 ++ gos 6 0)) (go 0) .answer ≡ Replied (Loaded 9)
   loads : only-moves 6 (applied fresh case11) 0 ≡ true
   stores : only-moves 6 (applied fresh case10) 1 ≡ true
-  took : applyOf (applied fresh (case10 ++ gos 6 1)) (go 1) .answer ≡ Replied Took
   count : getD (applied fresh case10 .counts) 0 0 ≡ 3
   probing : free (applied fresh (case10 ++ gos 4 1)) ≡ 2
   busy : used (applied fresh (case10 ++ gos 7 1)) ≡ 4
@@ -77,25 +75,19 @@ record Computed : Type 0 where
 computed : Computed
 unfolding total over applied applyOf decisionOf judgedOf orderOf callOf loadOf storeOf linkedCallOf entryOf nonzero outside marked wordAt carriedOf inRange sizesOk every taskOk effectOf rows after raisedOf loweredOf setupOf freshOf fillTo
 computed =
-    record { steps = refl; most = refl; loaded = refl; loads = refl; stores = refl; took = refl; count = refl; probing = refl; busy = refl }
+    record { steps = refl; most = refl; loads = refl; stores = refl; count = refl; probing = refl; busy = refl }
 
--- 12 steps for 2 loads and 1 swap, and the last of them gives 9
+-- 12 steps for 2 loads and 1 swap
 pub bound-met : (over (stepsAt anywhere) fresh (case11 ++ gos 7 0) ≡ 12)
     × (4 * over (loadsAt anywhere) fresh (case11 ++ gos 7 0) + 4 * ((fresh .p - 1) * over (swapsAt anywhere) fresh (case11 ++ gos 7 0)) ≡ 12)
 bound-met = (computed .steps, computed .most)
 
-pub gives-9 : applyOf (applied fresh (case11 ++ gos 6 0)) (go 0) .answer ≡ Replied (Loaded 9)
-gives-9 = computed .loaded
-
--- 6 steps are not enough for task 0's load there, nor N + 2P + 1 = 6 for task 1's store in case 10; its seventh takes
+-- 6 steps are not enough for task 0's load there, nor N + 2P + 1 = 6 for task 1's store in case 10
 pub load-met : Within 6 (applied fresh case11) 0 → ⊥
 load-met = late 6 (applied fresh case11) 0 (computed .loads)
 
 pub store-met : Within 6 (applied fresh case10) 1 → ⊥
 store-met = late 6 (applied fresh case10) 1 (computed .stores)
-
-pub takes-7 : applyOf (applied fresh (case10 ++ gos 6 1)) (go 1) .answer ≡ Replied Took
-takes-7 = computed .took
 
 -- there a count is P + 1 = 3, two nodes are free while task 1 probes, and N + 2P - 1 = 4 are in use after it
 pub count-met : getD (applied fresh case10 .counts) 0 0 ≡ 3

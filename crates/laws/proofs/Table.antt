@@ -15,20 +15,20 @@ use Rattle.tallies.proofs.Tally.{tally-set, tally-at, tally-two, up-at, down-at
 use Rattle.wire.specs.Bytes.{wordAt}
 use Rattle.tasks.specs.Calls.{begunOf}
 use Rattle.tasks.specs.Records.{cellNo, noTask, onward, holding, owning, probing}
-use Rattle.tasks.specs.Phases.{live, passed}
+use Rattle.tasks.specs.Phases.{isPhase, live, passed}
 use Rattle.tasks.specs.Holders.{keeps}
 use Rattle.steps.specs.Table.{after, effectOf}
 use Rattle.cells.specs.Machine.{seenOf, written}
 use Rattle.cells.specs.Apply.{applyOf}
 use Rattle.laws.specs.Types.{CellNo, NodeNo, TaskNo, Task, Load, Store, Release, Validate, Nothing, Point, Count, Value, Deed, Does, Machine}
 use Rattle.laws.specs.Meaning.{points, claims, pointers}
-use Rattle.laws.specs.Kept.{Phase, InRange, Kept}
+use Rattle.laws.specs.Kept.{InRange, Kept}
 use Rattle.laws.proofs.Phases.{implied}
 use Rattle.laws.proofs.Entries.{by-entry, taskNo}
 use Rattle.laws.proofs.Rows.{Moves, l1, l2, l3-passed, l3-turned, l4, l5, s1, s2-swapped, s2-missed, s3-took, s3-shared, s5, s6-took, s6-busy, s7, r1, v1-good, v1-gone, moves}
 use Rattle.laws.proofs.Keeps.{task, in-list, in-counts, in-values, in-cells, pointed, own-apart, part, pairs, tame, Calm, Leaves, stepped, calm, alone, lowers, claiming}
 
-in-phase : {n k : ℕ} {t : Task} (f : ℕ) → Phase f → InRange n k t → InRange n k (onward t f)
+in-phase : {n k : ℕ} {t : Task} (f : ℕ) → T (isPhase f) → InRange n k t → InRange n k (onward t f)
 in-phase f h r = record { phase = h; cell = r .cell; held = r .held; own = r .own; cursor = r .cursor }
 
 module _ (m : Machine) (K : Kept m) (p : TaskNo) (hp : p .0 < m .p) where
@@ -47,7 +47,7 @@ module _ (m : Machine) (K : Kept m) (p : TaskNo) (hp : p .0 < m .p) where
 
   -- going on from phase a to phase b, where the record then claims, holds and owns no more
   abbrev Gently : ℕ → ℕ → Type 0
-  Gently a b = Phase b × (b ≢ 8) × ((i : ℕ) → claims i (at b) ≤ claims i (at a)) × T (not (passed b) || passed a) × T (not (live b) || live a)
+  Gently a b = T (isPhase b) × (b ≢ 8) × ((i : ℕ) → claims i (at b) ≤ claims i (at a)) × T (not (passed b) || passed a) × T (not (live b) || live a)
 
   onward-calm : (a b : ℕ) (e : t ≡ at a) → Gently a b → Calm m K p hp (at a) e (at b)
   onward-calm a b e g = record {

@@ -8,7 +8,7 @@ use lib.ListN.{getD}
 use Rattle.tallies.specs.Lists.{within}
 use Rattle.wire.specs.Bytes.{wordAt}
 use Rattle.tasks.specs.Records.{noTask}
-use Rattle.tasks.specs.Phases.{passed}
+use Rattle.tasks.specs.Phases.{swung, passed}
 use Rattle.cells.specs.Apply.{applyOf}
 use Rattle.runs.specs.Counts.{kindOf, taskOf}
 use Rattle.figure1.specs.Figure1.{Call, load, store, release, validate, Result, value, took, lost, released, good, gone}
@@ -33,7 +33,7 @@ standing values f t =
     cond (eqb f 4) (acted (value (getD values (t .held .0) 0)))
     (cond (within 1 5 f) (asked (load (t .cell .0)))
     (cond (within 7 8 f) (asked (store (t .cell .0) (t .value)))
-    (cond (eqb f 9 || within 11 12 f) (acted took)
+    (cond (swung f) (acted took)
     (cond (eqb f 13) (acted lost)
     (cond (eqb f 14) (asked (release (t .cell .0)))
     (cond (eqb f 15) (asked (validate (t .cell .0)))

@@ -6,7 +6,7 @@ use mathlib.Core.List.{List}
 use lib.ListN.{length, getD}
 use lib.Dec.{T}
 use Rattle.tasks.specs.Records.{noTask}
-use Rattle.tasks.specs.Phases.{live, passed}
+use Rattle.tasks.specs.Phases.{isPhase, live, passed}
 use Rattle.laws.specs.Types.{Task, Machine}
 use Rattle.laws.specs.Meaning.{pointers, claimers, keepers}
 
@@ -32,13 +32,9 @@ Ready vs t = t .phase ≡ 8 → getD vs (t .own .0) 0 ≡ t .value
 abbrev pub Written : Machine → Type 0
 Written m = (x : ℕ) → x < m .p → Ready (m .values) (getD (m .tasks) x noTask)
 
--- there is such a phase
-abbrev pub Phase : ℕ → Type 0
-Phase f = (f ≤ 15) × (f ≢ 10)
-
 -- a task's record is in range for n cells and k nodes
 pub record InRange (n k : ℕ) (t : Task) : Type 0 where
-  pub phase : Phase (t .phase)
+  pub phase : T (isPhase (t .phase))
   pub cell : t .cell .0 < n
   pub held : t .held .0 < k
   pub own : t .own .0 < k

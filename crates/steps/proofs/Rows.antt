@@ -12,14 +12,14 @@ pub effect-at : (t : Task) (s : Seen) (n : ℕ) → t .phase ≡ n → effectOf 
 unfolding effectOf
 effect-at t s n e = rw e refl
 
--- 10 has no row, nor has a number past 15
-pub effect-none : (t : Task) (s : Seen) → (t .phase ≡ 10) ⊎ (16 ≤ t .phase) → effectOf t s ≡ noPhase t s
+-- 10 and the numbers past 15 are no phases
+pub effect-no-phase : (t : Task) (s : Seen) → (t .phase ≡ 10) ⊎ (16 ≤ t .phase) → effectOf t s ≡ noPhase t s
 unfolding effectOf rows
-effect-none t s (inl e) = rw e refl
-effect-none t s (inr h) = rw (List·getD-eq-default rows noPhase h)
+effect-no-phase t s (inl e) = rw e refl
+effect-no-phase t s (inr h) = rw (List·getD-eq-default rows noPhase h)
 
-pub leaving-one : (w : Write) (left : ℕ) (t : Task) → left ≡ 1 → leaving (To w left) t ≡ does (onward (owning t (t .held)) 0) w Took
-leaving-one w left t e = rw e refl
+pub left-one : (w : Write) (left : ℕ) (t : Task) → left ≡ 1 → leaving (To w left) t ≡ does (onward (owning t (t .held)) 0) w Took
+left-one w left t e = rw e refl
 
-pub leaving-others : (w : Write) (left : ℕ) (t : Task) → left ≢ 1 → leaving (To w left) t ≡ does (onward t 11) w Moved
-leaving-others w left t n = rw (ne-eqb left 1 n) refl
+pub left-not-one : (w : Write) (left : ℕ) (t : Task) → left ≢ 1 → leaving (To w left) t ≡ does (onward t 11) w Moved
+left-not-one w left t n = rw (ne-eqb left 1 n) refl

@@ -26,8 +26,13 @@ does t w r = Does (record { task = t; write = w; reply = r })
 
 -- a step that counts: its deed, or refusal 22
 abbrev pub counting : Counted → Task → Reply → Effect
-counting (To w left) t r = does t w r
+counting (To w n) t r = does t w r
 counting Broken t r = Refuses Damaged
+
+-- the step that goes by the number left: where it is 1, own becomes m and the store took, else S5 is next
+abbrev pub leaving : Counted → Task → Effect
+leaving (To w left) t = cond (eqb left 1) (does (onward (owning t (t .held)) 0) w Took) (does (onward t 11) w Moved)
+leaving Broken t = Refuses Damaged
 
 -- the count of m
 abbrev pub raising : Task → Seen → Counted
@@ -72,10 +77,6 @@ abbrev pub s2 : Row
 s2 t s = cond (eqb (t .held .0) (s .here .0)) (does (onward t 9) (Point (t .cell) (t .own)) Moved) (does (onward t 13) Nothing Moved)
 
 -- 9 S3: count of m down by 1; if 1 is left, own becomes m, store took; 0, else 11
-abbrev pub leaving : Counted → Task → Effect
-leaving (To w left) t = cond (eqb left 1) (does (onward (owning t (t .held)) 0) w Took) (does (onward t 11) w Moved)
-leaving Broken t = Refuses Damaged
-
 abbrev pub s3 : Row
 s3 t s = leaving (lowering t s) t
 

@@ -48,7 +48,7 @@ within-bounds a b n h = elim (decLe a n) [ yes l ↦ (l, leb-true n b (rw (le-le
 pub within-true : (a b n : ℕ) → a ≤ n → n ≤ b → within a b n ≡ true
 within-true a b n l r = rw (le-leb a n l, le-leb n b r)
 
--- one of two tests that passes has its bounds
+-- one of two tests passes exactly where its bounds hold
 pub within-either : (a b c d n : ℕ) → (within a b n || within c d n) ≡ true → ((a ≤ n) × (n ≤ b)) ⊎ ((c ≤ n) × (n ≤ d))
 within-either a b c d n h = split (within a b n) refl
   where
@@ -56,9 +56,13 @@ within-either a b c d n h = split (within a b n) refl
     split true e = inl (within-bounds a b n e)
     split false e = inr (within-bounds c d n (rw e at h))
 
-pub within-or : (a b c d n : ℕ) → a ≤ n → (b < n → c ≤ n) → n ≤ d → (within a b n || within c d n) ≡ true
-within-or a b c d n l m r =
-    elim (decLe n b) [ yes h ↦ rw (le-leb a n l, le-leb n b h) | no h ↦ rw (le-leb a n l, lt-leb n b (omega arith), le-leb c n (m (omega arith)), le-leb n d r) ]
+pub either-within : (a b c d n : ℕ) → ((a ≤ n) × (n ≤ b)) ⊎ ((c ≤ n) × (n ≤ d)) → (within a b n || within c d n) ≡ true
+either-within a b c d n (inl h) = rw (within-true a b n (h .0) (h .1)) refl
+either-within a b c d n (inr h) = rw (within-true c d n (h .0) (h .1)) (last (within a b n))
+  where
+    last : (t : Bool) → (t || true) ≡ true
+    last true = refl
+    last false = refl
 
 -- two tests that hold together hold each
 pub both : (a b : Bool) → (a && b) ≡ true → (a ≡ true) × (b ≡ true)

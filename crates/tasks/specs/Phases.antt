@@ -12,9 +12,13 @@ isPhase f = leb f 15 && not (eqb f 10)
 abbrev pub holds : ℕ → Bool
 holds f = within 3 9 f || eqb f 11 || within 13 15 f
 
--- the own field is in use: all phases but 9, 11 and 12
+-- the swap took and the store has not ended: phases 9, 11 and 12
+abbrev pub swung : ℕ → Bool
+swung f = eqb f 9 || within 11 12 f
+
+-- the own field is in use: all phases but those
 abbrev pub live : ℕ → Bool
-live f = not (eqb f 9 || within 11 12 f)
+live f = not (swung f)
 
 -- a store is running: phases 7 to 9 and 11 to 13
 abbrev pub storing : ℕ → Bool

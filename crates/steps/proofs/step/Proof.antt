@@ -1,9 +1,9 @@
 -- `step`: the phase picks the rows' function, or the refusal. Assumes nothing.
 use native.Mathlib.Omega.{arith}
 use mathlib.Core.Logic.{inl, inr, ⊎-elim}
-use Rattle.tallies.proofs.Lists.{within-true, within-or}
+use Rattle.tallies.proofs.Lists.{within-true, either-within}
 use Rattle.steps.specs.Table.{rows}
-use Rattle.steps.proofs.Rows.{effect-at, effect-none}
+use Rattle.steps.proofs.Rows.{effect-at, effect-no-phase}
 use borrow.Author.Needs.{needs}
 use Rattle.steps.proofs.step.Statement.{statement}
 use Rattle.steps.proofs.step.Tie as tie
@@ -25,8 +25,7 @@ load-step-requires c κs = within-true 1 5 (c .before .before .args .t .phase) (
 
 store-step-requires : tie.Need-store-step-requires
 store-step-requires c κs =
-    let f = c .before .before .before .args .t .phase in
-    ⊎-elim (λ w. within-or 7 9 11 13 f (omega arith) (λ h. omega arith) (omega arith)) (λ w. within-or 7 9 11 13 f (omega arith) (λ h. omega arith) (omega arith)) (c .if2 .came)
+    either-within 7 9 11 13 (c .before .before .before .args .t .phase) (⊎-elim (λ w. inl (omega arith)) (λ w. inr (omega arith)) (c .if2 .came))
 
 returns : tie.Need-returns
 unfolding rows
@@ -49,10 +48,10 @@ returns-5 : tie.Need-returns-5
 returns-5 c = search needs
 
 returns-6 : tie.Need-returns-6
-returns-6 c = let a = c .before .before .before .before .args in rw (effect-none (a .t) (a .s) (inl (omega arith)))
+returns-6 c = let a = c .before .before .before .before .args in rw (effect-no-phase (a .t) (a .s) (inl (omega arith)))
 
 returns-7 : tie.Need-returns-7
-returns-7 c = let a = c .before .before .before .before .before .args in rw (effect-none (a .t) (a .s) (inr (omega arith)))
+returns-7 c = let a = c .before .before .before .before .before .args in rw (effect-no-phase (a .t) (a .s) (inr (omega arith)))
 
 returns-8 : tie.Need-returns-8
 returns-8 c = search needs
