@@ -376,7 +376,7 @@ static void check_refused(struct machine m, uint8_t number, uint8_t task)
     CHECK(same(&m, &before));
 }
 
-/* Every number that fits, of the task that waits; where it is no phase, of the one that moves too. */
+/* Each byte as the phase of one task; where it is none, of the other too. */
 static void check_phases(void)
 {
     CHECK(S3 == 9 && S5 == 11 && S6 == 12 && S7 == 13 && R1 == 14 && V1 == 15);
