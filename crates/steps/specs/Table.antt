@@ -29,7 +29,7 @@ abbrev pub counting : Counted → Task → Reply → Effect
 counting (To w n) t r = does t w r
 counting Broken t r = Refuses Damaged
 
--- the step that goes by the number left: where it is 1, own becomes m and the store took, else S5 is next
+-- the step that goes by the number left: at 1 the task takes m as its own node and its store has ended, else it goes on to S5
 abbrev pub leaving : Counted → Task → Effect
 leaving (To w left) t = cond (eqb left 1) (does (onward (owning t (t .held)) 0) w Took) (does (onward t 11) w Moved)
 leaving Broken t = Refuses Damaged
