@@ -6,6 +6,7 @@
  * status 1 then.
  */
 #include "bench.h"
+#include "chance.h"
 
 #include <string.h>
 
@@ -250,12 +251,6 @@ static void check_lowering(void)
     check_lowered(S3, 1, MOVED, S5); /* no sound machine; the rule is the same */
     check_lowered(S3, 2, TOOK, IDLE);
     check_lowered(S3, 3, MOVED, S5);
-}
-
-static uint32_t chance(uint32_t *state)
-{
-    *state = *state * 1664525 + 1013904223;
-    return *state >> 16; /* the low bits of such a sequence repeat soon */
 }
 
 /* An entry that the task's phase allows. */

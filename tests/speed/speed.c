@@ -7,6 +7,7 @@
  */
 #include "../random/driver.h"
 #include "../second/bench.h"
+#include "../second/chance.h"
 
 #include <kemilunda.h>
 #include <stdlib.h>
@@ -65,12 +66,6 @@ static void run_second(const struct input *in, struct output *out)
 struct sizes {
     uint8_t cells, tasks, nodes;
 };
-
-static uint32_t chance(uint32_t *state)
-{
-    *state = *state * 1664525 + 1013904223;
-    return *state >> 16; /* the low bits of such a sequence repeat soon */
-}
 
 /* An entry that the task's phase allows: mostly steps, seven stores a release. */
 static void put_entry(uint8_t *entry, const struct machine *m, uint32_t *state)

@@ -171,7 +171,7 @@ fn seek_step(t: Task, s: Seen) -> Effect
     }
 }
 
-// Phases 7 to 9 and 11 to 13.
+// Phases 7 to 9 and 11 to 13: there is no phase 10.
 fn store_step(t: Task, s: Seen) -> Effect
     requires { ⌜ storing (t .phase) ≡ true ⌝ }
     ensures { λ r. ⌜ r ≡ effectOf t s ⌝ }

@@ -1,5 +1,5 @@
 -- `leave_step`: row 9 of the table, by the number left behind. Assumes nothing.
-use Rattle.steps.proofs.Rows.{left-one, left-not-one}
+use borrow.Author.Tests.{ne-eqb}
 use borrow.Author.Needs.{needs}
 use Rattle.steps.proofs.leave_step.Statement.{statement}
 use Rattle.steps.proofs.leave_step.Tie as tie
@@ -36,7 +36,7 @@ returns c =
       c .before .before .owning .ensures,
       ← c .before .before .before .before .before .before .before .lowered .ensures,
       c .before .before .before .before .before .w .given .1,
-      left-one _ _ _ (c .before .before .before .if1 .taken),
+      c .before .before .before .if1 .taken,
     )
 
 returns-2 : tie.Need-returns-2
@@ -46,7 +46,7 @@ returns-2 c =
       c .before .onward2 .ensures,
       ← c .before .before .before .before .before .before .lowered .ensures,
       c .before .before .before .before .w .given .1,
-      left-not-one _ _ _ (c .before .before .if1 .left),
+      ne-eqb _ 1 (c .before .before .if1 .left),
     )
 
 returns-3 : tie.Need-returns-3
