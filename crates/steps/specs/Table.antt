@@ -5,6 +5,7 @@ use mathlib.Core.Bool.{cond}
 use mathlib.Core.List.{List, [], _∷_}
 use lib.Dec.{eqb, ltb}
 use lib.ListN.{getD}
+use Rattle.tallies.specs.Tally.{bit}
 use Rattle.tasks.specs.Records.{nodeNo, onward, holding, owning, probing}
 use Rattle.steps.specs.Types.{NodeNo, Task, Reply, Moved, Loaded, Took, Lost, Released, Good, Gone, NoStep, Damaged, Answer, Replied, Refused, Seen, Write, Nothing, Point, Count, Value, Counted, To, Broken, Effect, Does, Refuses}
 
@@ -12,14 +13,25 @@ use Rattle.steps.specs.Types.{NodeNo, Task, Reply, Moved, Loaded, Took, 
 unfoldable pub after : ℕ → NodeNo → NodeNo
 after k v = nodeNo (cond (eqb k 0) 0 ((v .0 + 1) % k))
 
--- the count c of node v up by 1, and the number then there; a record of p tasks is damaged where it would go past p + 1 (or past a byte, where
--- p is 255)
-unfoldable pub raisedOf : ℕ → NodeNo → ℕ → Counted
-raisedOf p v c = cond (ltb p c) Broken (cond (eqb c 255) Broken (To (Count v (c + 1)) (c + 1)))
+-- how many nodes are free where a count goes from c to d: one more where it comes to 0, one less where it leaves 0
+abbrev pub freeAfter : ℕ → ℕ → ℕ → ℕ
+freeAfter free c d = free + bit (eqb d 0) - bit (eqb c 0)
+
+-- the count of node v goes from c to d, and the number of free nodes with it; the record is damaged where that would go below 0 or above K
+unfoldable pub recountedOf : Seen → NodeNo → ℕ → ℕ → Counted
+recountedOf s v c d =
+    cond (ltb (s .free + bit (eqb d 0)) (bit (eqb c 0))) Broken
+    (cond (ltb (s .nodes) (freeAfter (s .free) c d)) Broken
+    (To (Count v d (freeAfter (s .free) c d)) d))
+
+-- the count c of node v up by 1, and the number then there; a record of P tasks is damaged where it would go past P + 1 (or past a byte, where
+-- P is 255)
+unfoldable pub raisedOf : Seen → NodeNo → ℕ → Counted
+raisedOf s v c = cond (ltb (s .tasks) c) Broken (cond (eqb c 255) Broken (recountedOf s v c (c + 1)))
 
 -- the count c of node v down by 1, and the number left behind; the record is damaged where c is 0
-unfoldable pub loweredOf : NodeNo → ℕ → Counted
-loweredOf v c = cond (eqb c 0) Broken (To (Count v (c - 1)) (c - 1))
+unfoldable pub loweredOf : Seen → NodeNo → ℕ → Counted
+loweredOf s v c = cond (eqb c 0) Broken (recountedOf s v c (c - 1))
 
 abbrev pub does : Task → Write → Reply → Effect
 does t w r = Does (record { task = t; write = w; reply = r })
@@ -36,10 +48,10 @@ leaving Broken t = Refuses Damaged
 
 -- the count of m
 abbrev pub raising : Task → Seen → Counted
-raising t s = raisedOf (s .tasks) (t .held) (s .«held_count»)
+raising t s = raisedOf s (t .held) (s .«held_count»)
 
 abbrev pub lowering : Task → Seen → Counted
-lowering t s = loweredOf (t .held) (s .«held_count»)
+lowering t s = loweredOf s (t .held) (s .«held_count»)
 
 abbrev pub Row : Type 0
 Row = Task → Seen → Effect
@@ -87,7 +99,7 @@ s5 t s = counting (lowering t s) (onward (probing t (after (s .nodes) (t .held))
 -- 12 S6: if the cursor's node has count 0: count 1, own is that node, store took; else cursor on by 1 mod K; 0, else 12
 abbrev pub s6 : Row
 s6 t s =
-    cond (eqb (s .«cursor_count») 0) (does (onward (owning t (t .cursor)) 0) (Count (t .cursor) 1) Took)
+    cond (eqb (s .«cursor_count») 0) (counting (recountedOf s (t .cursor) 0 1) (onward (owning t (t .cursor)) 0) Took)
     (does (onward (probing t (after (s .nodes) (t .cursor))) 12) Nothing Moved)
 
 -- 13 S7: count of m down by 1, store lost; 0

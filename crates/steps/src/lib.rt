@@ -6,11 +6,14 @@ use tasks::NodeNo;
 use tasks::Task;
 ghost use mathlib.Core.Path.{_≡_};
 ghost use mathlib.Core.Bool.{true};
+ghost use lib.Dec.{eqb};
 ghost use Rattle.tallies.specs.Lists.{within};
+ghost use Rattle.tallies.specs.Tally.{bit};
 ghost use Rattle.tasks.specs.Phases.{storing};
-ghost use Rattle.steps.specs.Table.{after, raisedOf, loweredOf, does, counting, s2, s3, s6, v1, effectOf};
+ghost use Rattle.steps.specs.Table.{after, recountedOf, raisedOf, loweredOf, does, counting, s2, s3, s6, v1, effectOf};
 
-// What a step may look at besides its task's record: the node of x, the counts of m and of the cursor's node, the value of m, P and K.
+// What a step may look at besides its task's record: the node of x, the counts of m and of the cursor's node, the value of m, P, K and how many
+// nodes are free.
 pub struct Seen {
     pub here: NodeNo,
     pub held_count: u8,
@@ -18,13 +21,14 @@ pub struct Seen {
     pub held_value: u32,
     pub tasks: u8,
     pub nodes: u8,
+    pub free: u8,
 }
 
-// The one place of the tables that a step writes.
+// The one place of the tables that a step writes; with a count goes the number of free nodes that it leaves.
 pub enum Write {
     Nothing,
     Point(CellNo, NodeNo),
-    Count(NodeNo, u8),
+    Count(NodeNo, u8, u8),
     Value(NodeNo, u32),
 }
 
@@ -57,29 +61,52 @@ pub fn next_node(k: u8, v: NodeNo) -> NodeNo
     NodeNo(next)
 }
 
-// The one place where a count goes up: node v's, which is now `count`, where there are p tasks.
-pub fn raised(p: u8, v: NodeNo, count: u8) -> Counted
-    ensures { λ r. ⌜ r ≡ raisedOf p v count ⌝ }
+// 1 where a node with that count is free.
+fn free_one(count: u8) -> u16
+    ensures { λ r. ⌜ r ≡ bit (eqb count 0) ⌝ }
 {
-    if p < count {
+    if count == 0 { 1 } else { 0 }
+}
+
+// The one place where the number of free nodes is kept: node v's count goes from one number to another.
+fn recounted(s: Seen, v: NodeNo, from: u8, to: u8) -> Counted
+    ensures { λ r. ⌜ r ≡ recountedOf s v from to ⌝ }
+{
+    let more = s.free as u16 + free_one(to);
+    let less = free_one(from);
+    if more < less {
+        return Counted::Broken;
+    }
+    let free = more - less;
+    if (s.nodes as u16) < free {
+        return Counted::Broken;
+    }
+    Counted::To(Write::Count(v, to, free as u8), to)
+}
+
+// The one place where a count goes up: node v's, which is now `count`.
+pub fn raised(s: Seen, v: NodeNo, count: u8) -> Counted
+    ensures { λ r. ⌜ r ≡ raisedOf s v count ⌝ }
+{
+    if s.tasks < count {
         return Counted::Broken;
     }
     if count == 255 {
         return Counted::Broken;
     }
     let up = count + 1;
-    Counted::To(Write::Count(v, up), up)
+    recounted(s, v, count, up)
 }
 
 // The one place where a count goes down; S3 decides on the number left behind.
-pub fn lowered(v: NodeNo, count: u8) -> Counted
-    ensures { λ r. ⌜ r ≡ loweredOf v count ⌝ }
+pub fn lowered(s: Seen, v: NodeNo, count: u8) -> Counted
+    ensures { λ r. ⌜ r ≡ loweredOf s v count ⌝ }
 {
     if count == 0 {
         return Counted::Broken;
     }
     let left = count - 1;
-    Counted::To(Write::Count(v, left), left)
+    recounted(s, v, count, left)
 }
 
 fn done(t: Task, w: Write, r: Reply) -> Effect
@@ -109,11 +136,7 @@ fn load_step(t: Task, s: Seen) -> Effect
     let f = t.phase;
     match f {
         1 => done(t.holding(s.here).onward(2), Write::Nothing, Reply::Moved),
-        2 => settled(
-            raised(s.tasks, t.held, s.held_count),
-            t.onward(3),
-            Reply::Moved,
-        ),
+        2 => settled(raised(s, t.held, s.held_count), t.onward(3), Reply::Moved),
         3 => {
             if t.held.0 == s.here.0 {
                 done(t.onward(4), Write::Nothing, Reply::Moved)
@@ -122,7 +145,7 @@ fn load_step(t: Task, s: Seen) -> Effect
             }
         }
         4 => done(t.onward(6), Write::Nothing, Reply::Loaded(s.held_value)),
-        _ => settled(lowered(t.held, s.held_count), t.onward(1), Reply::Moved),
+        _ => settled(lowered(s, t.held, s.held_count), t.onward(1), Reply::Moved),
     }
 }
 
@@ -143,7 +166,7 @@ fn swap_step(t: Task, s: Seen) -> Effect
 fn leave_step(t: Task, s: Seen) -> Effect
     ensures { λ r. ⌜ r ≡ s3 t s ⌝ }
 {
-    match lowered(t.held, s.held_count) {
+    match lowered(s, t.held, s.held_count) {
         Counted::To(w, left) => {
             if left == 1 {
                 done(t.owning(t.held).onward(0), w, Reply::Took)
@@ -161,7 +184,7 @@ fn seek_step(t: Task, s: Seen) -> Effect
 {
     if s.cursor_count == 0 {
         let v = t.cursor;
-        done(t.owning(v).onward(0), Write::Count(v, 1), Reply::Took)
+        settled(recounted(s, v, 0, 1), t.owning(v).onward(0), Reply::Took)
     } else {
         done(
             t.probing(next_node(s.nodes, t.cursor)).onward(12),
@@ -185,12 +208,12 @@ fn store_step(t: Task, s: Seen) -> Effect
         8 => swap_step(t, s),
         9 => leave_step(t, s),
         11 => settled(
-            lowered(t.held, s.held_count),
+            lowered(s, t.held, s.held_count),
             t.probing(next_node(s.nodes, t.held)).onward(12),
             Reply::Moved,
         ),
         12 => seek_step(t, s),
-        _ => settled(lowered(t.held, s.held_count), t.onward(0), Reply::Lost),
+        _ => settled(lowered(s, t.held, s.held_count), t.onward(0), Reply::Lost),
     }
 }
 
@@ -216,7 +239,7 @@ pub fn step(t: Task, s: Seen) -> Effect
         1..=5 => load_step(t, s),
         6 => Effect::Refuses(Refusal::NoStep),
         7..=9 | 11..=13 => store_step(t, s),
-        14 => settled(lowered(t.held, s.held_count), t.onward(0), Reply::Released),
+        14 => settled(lowered(s, t.held, s.held_count), t.onward(0), Reply::Released),
         15 => validate_step(t, s),
         _ => Effect::Refuses(Refusal::Damaged),
     }

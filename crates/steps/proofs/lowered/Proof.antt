@@ -12,9 +12,12 @@ returns c = rw (eq-eqb _ 0 (c .if1 .taken))
 sub-left : tie.Need-sub-left
 sub-left c = search needs
 
+recounted-requires : tie.Need-recounted-requires
+recounted-requires c κs = search needs
+
 returns-2 : tie.Need-returns-2
 unfolding loweredOf
-returns-2 c = rw (ne-eqb _ 0 (c .if1 .left))
+returns-2 c = rw (ne-eqb _ 0 (c .before .if1 .left)) (c .recounted .ensures)
 
 pub lowered-spec : {M : Type 1} → statement M
-lowered-spec = tie.close (tie.spec returns sub-left returns-2)
+lowered-spec = tie.close (tie.spec returns sub-left recounted-requires returns-2)

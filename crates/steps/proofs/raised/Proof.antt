@@ -16,9 +16,12 @@ returns-2 c = rw (le-ltb _ _ (c .before .if1 .left), eq-eqb _ 255 (c .if2 .taken
 add-up : tie.Need-add-up
 add-up c = search needs
 
+recounted-requires : tie.Need-recounted-requires
+recounted-requires c κs = search needs
+
 returns-3 : tie.Need-returns-3
 unfolding raisedOf
-returns-3 c = rw (le-ltb _ _ (c .before .if1 .left), ne-eqb _ 255 (c .if2 .left))
+returns-3 c = rw (le-ltb _ _ (c .before .before .if1 .left), ne-eqb _ 255 (c .before .if2 .left)) (c .recounted .ensures)
 
 pub raised-spec : {M : Type 1} → statement M
-raised-spec = tie.close (tie.spec returns returns-2 add-up returns-3)
+raised-spec = tie.close (tie.spec returns returns-2 add-up recounted-requires returns-3)
