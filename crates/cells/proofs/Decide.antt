@@ -17,12 +17,12 @@ use Rattle.tables.proofs.Laws.{sizes-bounds}
 use Rattle.entries.specs.Entry.{entryOf}
 use Rattle.entries.specs.Order.{orderOf}
 use Rattle.cells.specs.Types.{Machine, TaskNo, Task, Seen, Deed, Effect, Does, Refuses, Refusal, Replied, NoTask, WrongMark, TooShort, Entry, Whole, Unread, Decision}
-use Rattle.cells.specs.Machine.{seenOf, written, refusedBy, carriedOf, tablesOk, inRange}
+use Rattle.cells.specs.Machine.{seenOf, written, refusedBy, carriedOf, poolOk, tablesOk, inRange}
 use Rattle.cells.specs.Apply.{judgedOf, guarded, decidedOf, decisionOf, carriedBy, applyOf}
 
 -- the decision on the bytes s over the tables of machine m, with the record t and the range test of the task records handed in
 abbrev pub decidedOn : Machine → Task → Bool → List ℕ → Decision
-decidedOn m t inside s = decidedOf (m .n) (m .p) (m .k) (m .cells) (m .values) (m .counts) t inside s
+decidedOn m t inside s = decidedOf (m .n) (m .p) (m .k) (m .free) (m .cells) (m .values) (m .counts) t inside s
 
 -- past the table's end no entry is accepted, so the record that was looked at doesn't matter
 order-same : (m : Machine) (e : Entry) (t : Task) → m .p ≤ 16 → t ≡ getD (m .tasks) (min (e .task .0) 15) noTask
@@ -62,11 +62,12 @@ judged-does n p at sees false true e x h = let z : _≡_ {A = ℕ} 0 1 = cc in a
 judged-does n p at sees false false e x h = (refl, order-does n p e (at (e .task)) (sees (at (e .task))) x h)
 
 -- the tables in range have at most 16 tasks
-few-tasks : (m : Machine) → tablesOk (m .n) (m .p) (m .k) (m .cells) (m .counts) ≡ true → m .p ≤ 16
+few-tasks : (m : Machine) → tablesOk (m .n) (m .p) (m .k) (m .free) (m .cells) (m .counts) ≡ true → m .p ≤ 16
 few-tasks m h =
-    let a = both (sizesOk (m .n) (m .p) (m .k) && every (cellOk (m .cells) (m .k)) (m .n)) (every (countOk (m .counts) (m .p)) (m .k)) h in
-    let b = both (sizesOk (m .n) (m .p) (m .k)) (every (cellOk (m .cells) (m .k)) (m .n)) (a .0) in
-    sizes-bounds _ _ _ (b .0) .1
+    let a = both (poolOk (m .n) (m .p) (m .k) (m .free) && every (cellOk (m .cells) (m .k)) (m .n)) (every (countOk (m .counts) (m .p)) (m .k)) h in
+    let b = both (poolOk (m .n) (m .p) (m .k) (m .free)) (every (cellOk (m .cells) (m .k)) (m .n)) (a .0) in
+    let c = both (sizesOk (m .n) (m .p) (m .k)) (leb (m .free) (m .k)) (b .0) in
+    sizes-bounds _ _ _ (c .0) .1
 
 -- the second test counts only where the first one holds
 gated : (a b c : Bool) → (a ≡ true → b ≡ c) → (a && b) ≡ (a && c)
@@ -79,10 +80,10 @@ guarded-same true d d′ h = h refl
 guarded-same false d d′ h = refl
 
 -- the two range tests, of the tables and of the first 16 task records, are the whole one
-pub range-tests : (m : Machine) → inRange m ≡ (tablesOk (m .n) (m .p) (m .k) (m .cells) (m .counts) && every (taskOkIn (m .tasks) (m .n) (m .k)) (min (m .p) 16))
+pub range-tests : (m : Machine) → inRange m ≡ (tablesOk (m .n) (m .p) (m .k) (m .free) (m .cells) (m .counts) && every (taskOkIn (m .tasks) (m .n) (m .k)) (min (m .p) 16))
 unfolding inRange
 range-tests m =
-    gated (tablesOk (m .n) (m .p) (m .k) (m .cells) (m .counts)) _ _
+    gated (tablesOk (m .n) (m .p) (m .k) (m .free) (m .cells) (m .counts)) _ _
     (λ h. let few = few-tasks m h in
     let same : min (m .p) 16 ≡ m .p = omega arith in
     ap (every (taskOkIn (m .tasks) (m .n) (m .k))) (sym same))
@@ -97,7 +98,7 @@ module _ (m : Machine) (s : List ℕ) (t : Task) (inside : Bool) (known : Known 
   entry = record { task = record { 0 = getD s 2 0 }; kind = getD s 3 0; cell = record { 0 = getD s 4 0 }; spare = getD s 5 0; value = wordAt s 6 }
 
   abbrev ok : Bool
-  ok = tablesOk (m .n) (m .p) (m .k) (m .cells) (m .counts)
+  ok = tablesOk (m .n) (m .p) (m .k) (m .free) (m .cells) (m .counts)
 
   decided-same : decidedOn m t inside s ≡ decisionOf m s
   unfolding decidedOf decisionOf entryOf

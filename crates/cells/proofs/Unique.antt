@@ -9,12 +9,22 @@ use Rattle.cells.proofs.write_values.Kinds as write-values·k
 use Rattle.cells.proofs.write_values.Reads as write-values
 use Rattle.cells.proofs.write_counts.Kinds as write-counts·k
 use Rattle.cells.proofs.write_counts.Reads as write-counts
+use Rattle.cells.proofs.write_free.Kinds as write-free·k
+use Rattle.cells.proofs.write_free.Reads as write-free
+use Rattle.cells.proofs.free_nodes.Kinds as free-nodes·k
+use Rattle.cells.proofs.free_nodes.Reads as free-nodes
+use Rattle.cells.proofs.free_number.Kinds as free-number·k
+use Rattle.cells.proofs.free_number.Reads as free-number
+use Rattle.cells.proofs.free_value.Kinds as free-value·k
+use Rattle.cells.proofs.free_value.Reads as free-value
 use Rattle.cells.proofs.Machine.task_at.Kinds as task-at·k
 use Rattle.cells.proofs.Machine.task_at.Reads as task-at
 use Rattle.cells.proofs.Machine.in_range.Kinds as in-range·k
 use Rattle.cells.proofs.Machine.in_range.Reads as in-range
 use Rattle.cells.proofs.Machine.apply.Kinds as apply·k
 use Rattle.cells.proofs.Machine.apply.Reads as apply
+use Rattle.cells.proofs.Machine.free_nodes.Kinds as machine-free-nodes·k
+use Rattle.cells.proofs.Machine.free_nodes.Reads as machine-free-nodes
 use Rattle.cells.proofs.Machine.holders.Kinds as holders·k
 use Rattle.cells.proofs.Machine.holders.Reads as holders
 use Rattle.cells.proofs.Machine.setup.Kinds as setup·k
@@ -36,6 +46,18 @@ write-values-one κs a z z′ ws ws′ p q q′ = (refl, λ i. ((q ∙ sym q′)
 pub write-counts-one : One write-counts·k.ps write-counts·k.r write-counts.Pre write-counts.Post
 write-counts-one κs a z z′ ws ws′ p q q′ = (refl, λ i. ((q ∙ sym q′) i, ws .1))
 
+pub write-free-one : One write-free·k.ps write-free·k.r write-free.Pre write-free.Post
+write-free-one κs a z z′ ws ws′ p q q′ = (q ∙ sym q′, refl)
+
+pub free-nodes-one : One free-nodes·k.ps free-nodes·k.r free-nodes.Pre free-nodes.Post
+free-nodes-one κs a z z′ ws ws′ p q q′ = (q ∙ sym q′, refl)
+
+pub free-number-one : One free-number·k.ps free-number·k.r free-number.Pre free-number.Post
+free-number-one κs a z z′ ws ws′ p q q′ = (q ∙ sym q′, refl)
+
+pub free-value-one : One free-value·k.ps free-value·k.r free-value.Pre free-value.Post
+free-value-one κs a z z′ ws ws′ p q q′ = (q ∙ sym q′, refl)
+
 pub task-at-one : One task-at·k.ps task-at·k.r task-at.Pre task-at.Post
 task-at-one κs a z z′ ws ws′ p q q′ = (q ∙ sym q′, refl)
 
@@ -44,6 +66,9 @@ in-range-one κs a z z′ ws ws′ p q q′ = (q ∙ sym q′, refl)
 
 pub apply-one : One apply·k.ps apply·k.r apply.Pre apply.Post
 apply-one κs a z z′ ws ws′ p q q′ = (q ∙ sym q′, refl)
+
+pub machine-free-nodes-one : One machine-free-nodes·k.ps machine-free-nodes·k.r machine-free-nodes.Pre machine-free-nodes.Post
+machine-free-nodes-one κs a z z′ ws ws′ p q q′ = (q ∙ sym q′, refl)
 
 pub holders-one : One holders·k.ps holders·k.r holders.Pre holders.Post
 holders-one κs a z z′ ws ws′ p q q′ = (q ∙ sym q′, refl)

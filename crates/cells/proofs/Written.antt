@@ -6,24 +6,24 @@ use lib.ListN.{length, set, length-set}
 use Rattle.tables.specs.Tables.{putIn}
 use Rattle.tables.proofs.Laws.{put-set}
 use Rattle.cells.specs.Types.{Machine, TaskNo, Task, Write, Nothing, Point, Count, Value}
-use Rattle.cells.specs.Machine.{cellsBy, valuesBy, countsBy, cellsAfter, valuesAfter, countsAfter, written}
+use Rattle.cells.specs.Machine.{cellsBy, valuesBy, countsBy, freeBy, cellsAfter, valuesAfter, countsAfter, written}
 
 cells-put : (m : Machine) (w : Write) → length (m .cells) ≡ 64 → cellsBy (putIn 64) w (m .cells) ≡ cellsAfter m w
 cells-put m Nothing h = refl
 cells-put m (Point x v) h = put-set 64 (m .cells) (x .0) (v .0) h
-cells-put m (Count v c) h = refl
+cells-put m (Count v c f) h = refl
 cells-put m (Value v y) h = refl
 
 values-put : (m : Machine) (w : Write) → length (m .values) ≡ 128 → valuesBy (putIn 128) w (m .values) ≡ valuesAfter m w
 values-put m Nothing h = refl
 values-put m (Point x v) h = refl
-values-put m (Count v c) h = refl
+values-put m (Count v c f) h = refl
 values-put m (Value v y) h = put-set 128 (m .values) (v .0) y h
 
 counts-put : (m : Machine) (w : Write) → length (m .counts) ≡ 128 → countsBy (putIn 128) w (m .counts) ≡ countsAfter m w
 counts-put m Nothing h = refl
 counts-put m (Point x v) h = refl
-counts-put m (Count v c) h = put-set 128 (m .counts) (v .0) c h
+counts-put m (Count v c f) h = put-set 128 (m .counts) (v .0) c h
 counts-put m (Value v y) h = refl
 
 -- the lengths of a machine's tables
@@ -33,28 +33,28 @@ pub record Long (m : Machine) : Type 0 where
   pub counts : length (m .counts) ≡ 128
   pub tasks : length (m .tasks) ≡ 16
 
-pub put-written : (m : Machine) → Long m → (w : Write) (u : Task) (j i : ℕ) → j ≡ i → (cs vs ns : List ℕ) → cs ≡ cellsBy (putIn 64) w (m .cells) → vs ≡ valuesBy (putIn 128) w (m .values) → ns ≡ countsBy (putIn 128) w (m .counts)
-    → record { n = m .n; p = m .p; k = m .k; cells = cs; values = vs; counts = ns; tasks = set (m .tasks) j u } ≡ written m (record { 0 = i }) u w
-put-written m long w u j i e cs vs ns hc hv hn =
-    rw (hc ∙ cells-put m w (long .cells), hv ∙ values-put m w (long .values), hn ∙ counts-put m w (long .counts), e)
+pub put-written : (m : Machine) → Long m → (w : Write) (u : Task) (j i : ℕ) → j ≡ i → (cs vs ns : List ℕ) (f : ℕ) → cs ≡ cellsBy (putIn 64) w (m .cells) → vs ≡ valuesBy (putIn 128) w (m .values) → ns ≡ countsBy (putIn 128) w (m .counts) → f ≡ freeBy w (m .free)
+    → record { n = m .n; p = m .p; k = m .k; free = f; cells = cs; values = vs; counts = ns; tasks = set (m .tasks) j u } ≡ written m (record { 0 = i }) u w
+put-written m long w u j i e cs vs ns f hc hv hn hf =
+    rw (hc ∙ cells-put m w (long .cells), hv ∙ values-put m w (long .values), hn ∙ counts-put m w (long .counts), hf, e)
 
 -- no write changes a table's length
 pub cells-after : (m : Machine) (w : Write) → length (cellsAfter m w) ≡ length (m .cells)
 cells-after m Nothing = refl
 cells-after m (Point x v) = length-set (m .cells) (x .0) (v .0)
-cells-after m (Count v c) = refl
+cells-after m (Count v c f) = refl
 cells-after m (Value v y) = refl
 
 pub values-after : (m : Machine) (w : Write) → length (valuesAfter m w) ≡ length (m .values)
 values-after m Nothing = refl
 values-after m (Point x v) = refl
-values-after m (Count v c) = refl
+values-after m (Count v c f) = refl
 values-after m (Value v y) = length-set (m .values) (v .0) y
 
 pub counts-after : (m : Machine) (w : Write) → length (countsAfter m w) ≡ length (m .counts)
 counts-after m Nothing = refl
 counts-after m (Point x v) = refl
-counts-after m (Count v c) = length-set (m .counts) (v .0) c
+counts-after m (Count v c f) = length-set (m .counts) (v .0) c
 counts-after m (Value v y) = refl
 
 pub long-written : (m : Machine) (p : TaskNo) (u : Task) (w : Write) → Long m → Long (written m p u w)

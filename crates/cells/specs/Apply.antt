@@ -19,9 +19,9 @@ abbrev pub guarded : Bool → Decision → Decision
 guarded ok d = cond (not ok) (record { task = 0; effect = Refuses Damaged }) d
 
 -- over lent tables: t is the record of the entry's task, and `inside` says whether the task records are in range
-unfoldable pub decidedOf : ℕ → ℕ → ℕ → List ℕ → List ℕ → List ℕ → Task → Bool → List ℕ → Decision
-decidedOf n p k cells values counts t inside s =
-    guarded (tablesOk n p k cells counts && inside) (judgedOf n p (λ q. t) (λ u. seenIn cells values counts u p k) (entryOf s))
+unfoldable pub decidedOf : ℕ → ℕ → ℕ → ℕ → List ℕ → List ℕ → List ℕ → Task → Bool → List ℕ → Decision
+decidedOf n p k free cells values counts t inside s =
+    guarded (tablesOk n p k free cells counts && inside) (judgedOf n p (λ q. t) (λ u. seenIn cells values counts u p k free) (entryOf s))
 
 -- over a machine's own tables and records
 unfoldable pub decisionOf : Machine → List ℕ → Decision

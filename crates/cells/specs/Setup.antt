@@ -1,5 +1,5 @@
 -- Setup from bytes: the mark, N, P, K, a zero byte, then N values of 4 bytes.
-use Prim.Native.Nat.{ℕ, _+_, _*_}
+use Prim.Native.Nat.{ℕ, _+_, _-_, _*_}
 use mathlib.Core.Bool.{cond, not}
 use mathlib.Core.List.{List}
 use lib.Dec.{eqb, ltb}
@@ -18,19 +18,22 @@ blankOf =
       n = 0;
       p = 0;
       k = 0;
+      free = 0;
       cells = replicate 64 0;
       values = replicate 128 0;
       counts = replicate 128 0;
       tasks = replicate 16 noTask;
     }
 
--- cell i points at node i, which holds the given value; task i owns node N+i; counts are 1 below N+P; all else is zero
+-- cell i points at node i, which holds the given value; task i owns node N+i; counts are 1 below N+P, and the other K-N-P nodes are free; all else
+-- is zero
 unfoldable pub freshOf : ℕ → ℕ → ℕ → List ℕ → Machine
 freshOf n p k s =
     record {
       n = n;
       p = p;
       k = k;
+      free = k - n - p;
       cells = fillTo (λ (i : ℕ). i) n (replicate 64 0);
       values = fillTo (valueGiven s) n (replicate 128 0);
       counts = fillTo (λ (i : ℕ). 1) (n + p) (replicate 128 0);

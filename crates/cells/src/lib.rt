@@ -22,15 +22,18 @@ ghost use Rattle.tallies.specs.Lists.{fillTo};
 ghost use Rattle.tasks.specs.Records.{nodeNo, noTask, idleOwning};
 ghost use Rattle.tasks.specs.Holders.{heldAmong};
 ghost use Rattle.tables.specs.Tables.{taskIn, putIn};
-ghost use Rattle.cells.specs.Machine.{seenIn, cellsBy, valuesBy, countsBy, tablesOk, inRange};
+ghost use Rattle.cells.specs.Machine.{seenIn, cellsBy, valuesBy, countsBy, freeBy, poolOk, tablesOk, inRange};
+ghost use Rattle.cells.specs.Free.{freeOf, freeNumber, freeValue};
 ghost use Rattle.cells.specs.Apply.{decidedOf, applyOf};
 ghost use Rattle.cells.specs.Setup.{blankOf, freshOf, refusedSetup, setupOf, setupNumber, setupBytes};
 
-// N, P and K; the node that each cell points at; each node's value and count; the task records. What stands past N, P and K makes no difference.
+// N, P and K; how many nodes are free; the node that each cell points at; each node's value and count; the task records. What stands past N, P and K
+// makes no difference.
 pub struct Machine {
     pub n: u8,
     pub p: u8,
     pub k: u8,
+    pub free: u8,
     pub cells: [u8; 64],
     pub values: [u32; 128],
     pub counts: [u8; 128],
@@ -64,6 +67,7 @@ fn blank() -> Machine
         n: 0,
         p: 0,
         k: 0,
+        free: 0,
         cells: [0; 64],
         values: [0; 128],
         counts: [0; 128],
@@ -90,13 +94,14 @@ fn owners(n: u8, p: u8) -> [Task; 16]
 
 // The machine that a setup's bytes s describe.
 fn fresh(n: u8, p: u8, k: u8, s: &[u8]) -> Machine
-    requires { ⌜ (n ≤ 64) × (p ≤ 16) ⌝ }
+    requires { ⌜ (n ≤ 64) × (p ≤ 16) × (n + 2 * p ≤ k) ⌝ }
     ensures { λ r. ⌜ r ≡ freshOf n p k (now (s .entry)) ⌝ }
 {
     let mut m = blank();
     m.n = n;
     m.p = p;
     m.k = k;
+    m.free = k - n - p;
     tables::point_cells(&mut m.cells, n);
     tables::give_values(&mut m.values, s, n);
     tables::count_ones(&mut m.counts, n + p);
@@ -177,9 +182,17 @@ pub struct Decision {
     pub effect: Effect,
 }
 
-// What a step of the task record t may look at, in a machine of p tasks and k nodes.
-fn seen<'a>(cells: &'a [u8], values: &'a [u32], counts: &'a [u8], t: Task, p: u8, k: u8) -> Seen
-    ensures { λ r. ⌜ r ≡ seenIn (now (cells .entry)) (now (values .entry)) (now (counts .entry)) t p k ⌝ }
+// What a step of the task record t may look at, in a machine of p tasks and k nodes, of which so many are free.
+fn seen<'a>(
+    cells: &'a [u8],
+    values: &'a [u32],
+    counts: &'a [u8],
+    t: Task,
+    p: u8,
+    k: u8,
+    free: u8,
+) -> Seen
+    ensures { λ r. ⌜ r ≡ seenIn (now (cells .entry)) (now (values .entry)) (now (counts .entry)) t p k free ⌝ }
 {
     let here = node_at(cells, t.cell);
     let held = count_at(counts, t.held);
@@ -192,14 +205,25 @@ fn seen<'a>(cells: &'a [u8], values: &'a [u32], counts: &'a [u8], t: Task, p: u8
         held_value: value,
         tasks: p,
         nodes: k,
+        free: free,
     }
 }
 
-// The range test (22) of all but the task records.
-fn tables_ok<'a>(n: u8, p: u8, k: u8, cells: &'a [u8], counts: &'a [u8]) -> bool
-    ensures { λ r. ⌜ r ≡ tablesOk n p k (now (cells .entry)) (now (counts .entry)) ⌝ }
+// The range test (22) of the sizes and the number of free nodes.
+fn pool_ok(n: u8, p: u8, k: u8, free: u8) -> bool
+    ensures { λ r. ⌜ r ≡ poolOk n p k free ⌝ }
 {
     if !tables::sizes_ok(n, p, k) {
+        return false;
+    }
+    free <= k
+}
+
+// The range test (22) of all but the task records.
+fn tables_ok<'a>(n: u8, p: u8, k: u8, free: u8, cells: &'a [u8], counts: &'a [u8]) -> bool
+    ensures { λ r. ⌜ r ≡ tablesOk n p k free (now (cells .entry)) (now (counts .entry)) ⌝ }
+{
+    if !pool_ok(n, p, k, free) {
         return false;
     }
     if !tables::cells_ok(cells, n, k) {
@@ -213,6 +237,7 @@ pub fn decided<'a>(
     n: u8,
     p: u8,
     k: u8,
+    free: u8,
     cells: &'a [u8],
     values: &'a [u32],
     counts: &'a [u8],
@@ -220,9 +245,9 @@ pub fn decided<'a>(
     inside: bool,
     s: &'a [u8],
 ) -> Decision
-    ensures { λ r. ⌜ r ≡ decidedOf n p k (now (cells .entry)) (now (values .entry)) (now (counts .entry)) t inside (now (s .entry)) ⌝ }
+    ensures { λ r. ⌜ r ≡ decidedOf n p k free (now (cells .entry)) (now (values .entry)) (now (counts .entry)) t inside (now (s .entry)) ⌝ }
 {
-    if !tables_ok(n, p, k, cells, counts) {
+    if !tables_ok(n, p, k, free, cells, counts) {
         return Decision {
             task: 0,
             effect: Effect::Refuses(Refusal::Damaged),
@@ -242,7 +267,7 @@ pub fn decided<'a>(
         EntryRead::Whole(e) => {
             let q = e.task;
             let i = q.0;
-            let effect = entries::order(n, p, e, t, seen(cells, values, counts, t, p, k));
+            let effect = entries::order(n, p, e, t, seen(cells, values, counts, t, p, k, free));
             Decision {
                 task: i,
                 effect: effect,
@@ -259,7 +284,7 @@ pub fn write_cells(cells: &mut [u8; 64], w: Write)
     match w {
         Write::Nothing => {}
         Write::Point(x, v) => put_node(cells, x, v),
-        Write::Count(_, _) => {}
+        Write::Count(_, _, _) => {}
         Write::Value(_, _) => {}
     }
 }
@@ -270,7 +295,7 @@ pub fn write_values(values: &mut [u32; 128], w: Write)
     match w {
         Write::Nothing => {}
         Write::Point(_, _) => {}
-        Write::Count(_, _) => {}
+        Write::Count(_, _, _) => {}
         Write::Value(v, y) => put_value(values, v, y),
     }
 }
@@ -281,8 +306,54 @@ pub fn write_counts(counts: &mut [u8; 128], w: Write)
     match w {
         Write::Nothing => {}
         Write::Point(_, _) => {}
-        Write::Count(v, c) => put_count(counts, v, c),
+        Write::Count(v, c, _) => put_count(counts, v, c),
         Write::Value(_, _) => {}
+    }
+}
+
+// How many nodes are free after a write, where that many were before it.
+pub fn write_free(free: u8, w: Write) -> u8
+    ensures { λ r. ⌜ r ≡ freeBy w free ⌝ }
+{
+    match w {
+        Write::Nothing => free,
+        Write::Point(_, _) => free,
+        Write::Count(_, _, left) => left,
+        Write::Value(_, _) => free,
+    }
+}
+
+// The answer to the free-nodes question; a damaged record is refused with 22.
+pub enum FreeCount {
+    Free(u8),
+    Damaged,
+}
+
+// The free-nodes question: it looks at these four numbers of a record and at no table, so that it may be asked after every entry.
+pub fn free_nodes(n: u8, p: u8, k: u8, free: u8) -> FreeCount
+    ensures { λ r. ⌜ r ≡ freeOf n p k free ⌝ }
+{
+    if !pool_ok(n, p, k, free) {
+        return FreeCount::Damaged;
+    }
+    FreeCount::Free(free)
+}
+
+pub fn free_number(f: FreeCount) -> u8
+    ensures { λ r. ⌜ r ≡ freeNumber f ⌝ }
+{
+    match f {
+        FreeCount::Free(_) => 0,
+        FreeCount::Damaged => answers::refusal_number(Refusal::Damaged),
+    }
+}
+
+pub fn free_value(f: FreeCount) -> u8
+    ensures { λ r. ⌜ r ≡ freeValue f ⌝ }
+{
+    match f {
+        FreeCount::Free(n) => n,
+        FreeCount::Damaged => 0,
     }
 }
 
@@ -298,7 +369,14 @@ impl Machine {
     pub fn in_range(self) -> bool
         ensures { λ r. ⌜ r ≡ inRange self ⌝ }
     {
-        if !tables_ok(self.n, self.p, self.k, &self.cells, &self.counts) {
+        if !tables_ok(
+            self.n,
+            self.p,
+            self.k,
+            self.free,
+            &self.cells,
+            &self.counts,
+        ) {
             return false;
         }
         let ts = self.tasks;
@@ -317,6 +395,7 @@ impl Machine {
             self.n,
             self.p,
             self.k,
+            self.free,
             &self.cells,
             &self.values,
             &self.counts,
@@ -344,6 +423,7 @@ impl Machine {
                 write_cells(&mut self.cells, w);
                 write_values(&mut self.values, w);
                 write_counts(&mut self.counts, w);
+                self.free = write_free(self.free, w);
                 Applied {
                     machine: self,
                     answer: answer,
@@ -351,6 +431,13 @@ impl Machine {
                 }
             }
         }
+    }
+
+    // The free-nodes question, asked of the record's own numbers.
+    pub fn free_nodes(self) -> FreeCount
+        ensures { λ r. ⌜ r ≡ freeOf (self .n) (self .p) (self .k) (self .free) ⌝ }
+    {
+        free_nodes(self.n, self.p, self.k, self.free)
     }
 
     // The holders question, asked of the record's own tasks.

@@ -8,7 +8,7 @@ use lib.ListN.{length, length-map, getD, set, List·getD-eq-default}
 use lib.Seq.{set-out}
 use native.Mathlib.Decide.{decLt}
 use native.Mathlib.Omega.{arith}
-use borrow.Author.Tests.{lt-ltb, le-ltb}
+use borrow.Author.Tests.{lt-ltb, le-ltb, leb-true}
 use Rattle.tallies.specs.Lists.{within, fillTo}
 use Rattle.tallies.proofs.Lists.{fill-more, both, within-bounds}
 use Rattle.tables.specs.Tables.{putIn, sizesOk}
@@ -38,10 +38,10 @@ pub put-more : (n : ℕ) (f : ℕ → ℕ) (i : ℕ) (l : List ℕ) → i < n �
 put-more n f i l h = put-below n (fillTo f i l) i (f i) h ∙ fill-more f i l
 
 -- what the sizes test tells
-pub sizes-bounds : (n p k : ℕ) → sizesOk n p k ≡ true → (n ≤ 64) × (p ≤ 16)
+pub sizes-bounds : (n p k : ℕ) → sizesOk n p k ≡ true → (n ≤ 64) × (p ≤ 16) × (n + 2 * p ≤ k)
 unfolding sizesOk
 sizes-bounds n p k h =
     let a = both (within 1 64 n && within 1 16 p && leb (n + 2 * p) k) (leb k 128) h in
     let b = both (within 1 64 n && within 1 16 p) (leb (n + 2 * p) k) (a .0) in
     let c = both (within 1 64 n) (within 1 16 p) (b .0) in
-    (within-bounds 1 64 n (c .0) .1, within-bounds 1 16 p (c .1) .1)
+    (within-bounds 1 64 n (c .0) .1, within-bounds 1 16 p (c .1) .1, leb-true (n + 2 * p) k (b .1))

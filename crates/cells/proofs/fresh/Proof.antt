@@ -1,4 +1,4 @@
--- `fresh`: the four tables filled. Assumes nothing.
+-- `fresh`: the numbers set and the four tables filled. Assumes nothing.
 use Prim.Native.Nat.{_+_, min}
 use mathlib.Core.Path.{_≡_}
 use native.Mathlib.Omega.{arith}
@@ -9,6 +9,12 @@ use Rattle.cells.proofs.fresh.Tie as tie
 
 blank-requires : tie.Need-blank-requires
 blank-requires c κs = search needs
+
+sub-m : tie.Need-sub-m
+sub-m c = omega (arith, c .before .before .pre .2)
+
+sub-m-2 : tie.Need-sub-m-2
+sub-m-2 c = omega (arith, c .before .before .pre .2)
 
 point-cells-requires : tie.Need-point-cells-requires
 point-cells-requires c κs = search needs
@@ -38,6 +44,8 @@ fresh-spec =
     tie.close
     (tie.spec
     blank-requires
+    sub-m
+    sub-m-2
     point-cells-requires
     give-values-requires
     add-count-ones

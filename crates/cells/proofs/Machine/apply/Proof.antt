@@ -66,16 +66,19 @@ write-values-requires c κs = search needs
 write-counts-requires : tie.Need-write-counts-requires
 write-counts-requires c κs = search needs
 
+write-free-requires : tie.Need-write-free-requires
+write-free-requires c κs = search needs
+
 returns : tie.Need-returns
 returns c = let d = c .before .before .before in
     sym (applied-refuses _ _ _ _ (known d) _ (d .decided .ensures) _ (c .before .effect .given .1))
 
 returns-2 : tie.Need-returns-2
-returns-2 c = let d = c .before .before .before .before .before .before .before .before .before .before in
-    let deed = c .before .before .before .before .before .before .before .before .effect2 .given .0 .0 in
-    let does = c .before .before .before .before .before .before .before .before .effect2 .given .1 in
+returns-2 c = let d = c .before .before .before .before .before .before .before .before .before .before .before in
+    let deed = c .before .before .before .before .before .before .before .before .before .effect2 .given .0 .0 in
+    let does = c .before .before .before .before .before .before .before .before .before .effect2 .given .1 in
     let own = place d ∙ named _ _ _ _ (known d) _ (d .decided .ensures) deed does .1 in
-    let after = put-written (start d .args .t1) (long (start d)) (deed .write) (deed .task) _ _ own _ _ _ (c .before .before .before .before .write-cells .ensures) (c .before .before .write-values .ensures) (c .write-counts .ensures) in
+    let after = put-written (start d .args .t1) (long (start d)) (deed .write) (deed .task) _ _ own _ _ _ _ (c .before .before .before .before .before .write-cells .ensures) (c .before .before .before .write-values .ensures) (c .before .write-counts .ensures) (c .write-free .ensures) in
     ap (λ (m : Machine). record { machine = m; answer = Replied (deed .reply); task = d .decided .result .task }) after ∙ sym (applied-does _ _ _ _ (known d) _ (d .decided .ensures) deed does)
 
 pub apply-spec : {M : Type 1} → statement M
@@ -95,5 +98,6 @@ apply-spec =
     write-cells-requires
     write-values-requires
     write-counts-requires
+    write-free-requires
     returns
     returns-2)
