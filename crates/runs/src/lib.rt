@@ -151,6 +151,7 @@ fn run_entries(m: Machine, s: &[u8], out: &mut [u8]) -> Ran
             machine.n,
             machine.p,
             machine.k,
+            machine.free,
             &machine.cells,
             &machine.values,
             &machine.counts,
@@ -174,6 +175,7 @@ fn run_entries(m: Machine, s: &[u8], out: &mut [u8]) -> Ran
                 cells::write_cells(&mut machine.cells, w);
                 cells::write_values(&mut machine.values, w);
                 cells::write_counts(&mut machine.counts, w);
+                machine.free = cells::write_free(machine.free, w);
             }
         }
         i += 1;

@@ -133,20 +133,23 @@ write-values-requires c κs = search needs
 write-counts-requires : tie.Need-write-counts-requires Inv-loop μ-loop
 write-counts-requires c κs = search needs
 
+write-free-requires : tie.Need-write-free-requires Inv-loop μ-loop
+write-free-requires c κs = search needs
+
 add-i : tie.Need-add-i Inv-loop μ-loop
-add-i c = omega (arith, c .before .before .before .before .before .before .before .before .before .before .before .before .before .before .before .before .before .before .before .before .before .before .before .before .before .before .before .before .before .before .before .loop .inv .0 .taken, c .before .before .before .before .before .before .before .before .before .before .before .before .before .before .before .before .before .before .before .before .before .before .before .before .before .before .before .before .before .before .before .before .before .before .before .pre .0)
+add-i c = omega (arith, c .before .before .before .before .before .before .before .before .before .before .before .before .before .before .before .before .before .before .before .before .before .before .before .before .before .before .before .before .before .before .before .before .loop .inv .0 .taken, c .before .before .before .before .before .before .before .before .before .before .before .before .before .before .before .before .before .before .before .before .before .before .before .before .before .before .before .before .before .before .before .before .before .before .before .before .pre .0)
 
 loop-less : tie.Need-loop-less Inv-loop μ-loop
-loop-less c = omega (arith, c .before .before .before .before .before .before .before .before .before .before .before .before .before .before .before .before .before .before .before .before .before .before .before .before .before .before .before .before .before .before .loop-test .taken)
+loop-less c = omega (arith, c .before .before .before .before .before .before .before .before .before .before .before .before .before .before .before .before .before .before .before .before .before .before .before .before .before .before .before .before .before .before .before .loop-test .taken)
 
 loop-again : tie.Need-loop-again Inv-loop μ-loop
-loop-again c = let t = c .before .before .before .before .before .before .before .before .before .before .before .before in
+loop-again c = let t = c .before .before .before .before .before .before .before .before .before .before .before .before .before in
     let d = t .before .before in
     let l = d .before .before .before .before .before .before .before .before .before .before .before .before .before .before .before .before .before .loop in
-    let deed = c .before .before .before .before .before .before .before .before .effect .given .0 .0 in
-    let does = c .before .before .before .before .before .before .before .before .effect .given .1 in
+    let deed = c .before .before .before .before .before .before .before .before .before .effect .given .0 .0 in
+    let does = c .before .before .before .before .before .before .before .before .before .effect .given .1 in
     let own = place d ∙ named (m d) (x d) (found d) _ (known d) _ (d .decided .ensures) deed does .1 in
-    let after = put-written (m d) (l .inv .1) (deed .write) (deed .task) _ _ own _ _ _ (c .before .before .before .before .write-cells .ensures) (c .before .before .write-values .ensures) (c .write-counts .ensures) in (
+    let after = put-written (m d) (l .inv .1) (deed .write) (deed .task) _ _ own _ _ _ _ (c .before .before .before .before .before .write-cells .ensures) (c .before .before .before .write-values .ensures) (c .before .write-counts .ensures) (c .write-free .ensures) in (
       decision-goes-on (s d) (d .before .before .before .before .before .before .before .before .before .before .before .before .before .before .before .before .before .before .before .before .before .args .out .now) (d .before .before .before .before .before .before .before .before .before .before .before .before .before .before .before .before .before .before .before .before .before .args .m) (l .out) (m d) (l .report) (i d) (l .inv .0) (d .before .before .before .before .before .before .before .before .before .before .before .before .before .before .before .before .loop-test .taken) (d .before .before .before .before .before .before .before .before .before .before .before .before .before .before .before .before .before .before .before .before .before .pre .1)
           (x d) (next d) (found d) _ (known d) _ (d .decided .ensures) _ _ _ (d .before .before .before .before .before .before .before .before .before .before .before .before .before .byte-at .ensures) (t .told .ensures .0) (t .told .ensures .1) deed does (l .inv .1 .tasks) _ after,
       subst Long (sym after) (long-written (m d) _ (deed .task) (deed .write) (l .inv .1)),
@@ -189,6 +192,7 @@ run-entries-spec =
     write-cells-requires
     write-values-requires
     write-counts-requires
+    write-free-requires
     add-i
     loop-less
     loop-again
