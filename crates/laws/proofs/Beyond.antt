@@ -26,8 +26,9 @@ use Rattle.laws.specs.Kept.{InRange, Kept}
 use Rattle.laws.specs.Schedules.{applied, Reached}
 use Rattle.laws.specs.Beyond.{Bare, Agree, Alike, Alike-after}
 use Rattle.laws.proofs.Entries.{taskNo, by-entry}
-use Rattle.laws.proofs.Rows.{Moves, l1, l2, l3-passed, l3-turned, l4, l5, s1, s2-swapped, s2-missed, s3-took, s3-shared, s5, s6-took, s6-busy, s7, r1, v1-good, v1-gone, moves}
-use Rattle.laws.proofs.Table.{entry-keeps}
+use Rattle.laws.proofs.Rows.{moves}
+use Rattle.laws.proofs.Keeps.{Inside}
+use Rattle.laws.proofs.Table.{row-inside, entry-keeps}
 use Rattle.laws.proofs.Start.{Sizes, by-setup, setup-kept}
 use Rattle.laws.proofs.Reached.{scheduled}
 
@@ -50,34 +51,7 @@ fresh-bare n p k s z =
       tasks = λ q h. fill-past (λ (i : ℕ). idleOwning (nodeNo (n + i))) p (replicate 16 noTask) q noTask h ∙ all-same 16 q noTask;
     }
 
--- a write to one of n cells or k nodes
-abbrev Inside : ℕ → ℕ → Write → Type 0
-Inside n k Nothing = Unit {0}
-Inside n k (Point x v) = x .0 < n
-Inside n k (Count v c) = v .0 < k
-Inside n k (Value v y) = v .0 < k
-
-row-inside : (n k : ℕ) (t : Task) (s : Seen) → InRange n k t → {f : ℕ} {d : Deed} → Moves t s f d → Inside n k (d .write)
-row-inside n k t s r l1 = tt
-row-inside n k t s r (l2 h) = r .held
-row-inside n k t s r (l3-passed h) = tt
-row-inside n k t s r (l3-turned h) = tt
-row-inside n k t s r l4 = tt
-row-inside n k t s r (l5 h) = r .held
-row-inside n k t s r s1 = r .own
-row-inside n k t s r (s2-swapped h) = r .cell
-row-inside n k t s r (s2-missed h) = tt
-row-inside n k t s r (s3-took h) = r .held
-row-inside n k t s r (s3-shared h w) = r .held
-row-inside n k t s r (s5 h) = r .held
-row-inside n k t s r (s6-took h) = r .cursor
-row-inside n k t s r (s6-busy h) = tt
-row-inside n k t s r (s7 h) = r .held
-row-inside n k t s r (r1 h) = r .held
-row-inside n k t s r (v1-good h) = tt
-row-inside n k t s r (v1-gone h) = tt
-
-written-bare : (m : Machine) (q : TaskNo) (t : Task) (w : Write) → Bare m → q .0 < m .p → Inside (m .n) (m .k) w → Bare (written m q t w)
+written-bare : (m : Machine) (q : TaskNo) (t : Task) (w : Write) → Bare m → q .0 < m .p → Inside m w → Bare (written m q t w)
 written-bare m q t w B hq hw =
     record {
       cells = λ x h. cells w hw x h ∙ B .cells x h;
@@ -86,22 +60,22 @@ written-bare m q t w B hq hw =
       tasks = λ y h. getD-set-other (m .tasks) (q .0) y t noTask (omega arith) ∙ B .tasks y h;
     }
   where
-    cells : (w : Write) → Inside (m .n) (m .k) w → (x : ℕ) → m .n ≤ x → getD (cellsAfter m w) x 0 ≡ getD (m .cells) x 0
+    cells : (w : Write) → Inside m w → (x : ℕ) → m .n ≤ x → getD (cellsAfter m w) x 0 ≡ getD (m .cells) x 0
     cells Nothing i x h = refl
     cells (Point y v) i x h = getD-set-other (m .cells) (y .0) x (v .0) 0 (omega arith)
-    cells (Count v c) i x h = refl
+    cells (Count v c f) i x h = refl
     cells (Value v y) i x h = refl
 
-    values : (w : Write) → Inside (m .n) (m .k) w → (x : ℕ) → m .k ≤ x → getD (valuesAfter m w) x 0 ≡ getD (m .values) x 0
+    values : (w : Write) → Inside m w → (x : ℕ) → m .k ≤ x → getD (valuesAfter m w) x 0 ≡ getD (m .values) x 0
     values Nothing i x h = refl
     values (Point y v) i x h = refl
-    values (Count v c) i x h = refl
+    values (Count v c f) i x h = refl
     values (Value v y) i x h = getD-set-other (m .values) (v .0) x y 0 (omega arith)
 
-    counts : (w : Write) → Inside (m .n) (m .k) w → (x : ℕ) → m .k ≤ x → getD (countsAfter m w) x 0 ≡ getD (m .counts) x 0
+    counts : (w : Write) → Inside m w → (x : ℕ) → m .k ≤ x → getD (countsAfter m w) x 0 ≡ getD (m .counts) x 0
     counts Nothing i x h = refl
     counts (Point y v) i x h = refl
-    counts (Count v c) i x h = getD-set-other (m .counts) (v .0) x c 0 (omega arith)
+    counts (Count v c f) i x h = getD-set-other (m .counts) (v .0) x c 0 (omega arith)
     counts (Value v y) i x h = refl
 
 entry-bare : (m : Machine) (e : List ℕ) → Kept m → Bare m → Bare (applyOf m e .machine)
@@ -112,7 +86,7 @@ entry-bare m e K B =
     (λ a. written-bare m (taskNo e) _ Nothing B (a .task) tt)
     (λ a. written-bare m (taskNo e) _ Nothing B (a .task) tt)
     (λ d s. written-bare m (taskNo e) (d .task) (d .write) B (s .task)
-    (row-inside (m .n) (m .k) (taskOf m e) (seenOf m (taskOf m e)) (K .sound .each (getD e 2 0) (s .task)) (moves (taskOf m e) (seenOf m (taskOf m e)) d (s .does))))
+    (row-inside m K (taskNo e) (s .task) (moves (taskOf m e) (seenOf m (taskOf m e)) d (s .does))))
 
 schedule-bare : (es : List (List ℕ)) (m : Machine) → Kept m → Bare m → Bare (applied m es)
 unfolding applied
@@ -143,10 +117,10 @@ set-agree d k l l′ i a g =
 -- m with other tables, which agree with its own below N, P and K
 module _ (m : Machine) (cs vs ns : List ℕ) (ts : List Task) (C : Agree 0 (m .n) (m .cells) cs) (W : Agree 0 (m .k) (m .values) vs) (N : Agree 0 (m .k) (m .counts) ns) (T : Agree noTask (m .p) (m .tasks) ts) where
   abbrev m′ : Machine
-  m′ = record { n = m .n; p = m .p; k = m .k; cells = cs; values = vs; counts = ns; tasks = ts }
+  m′ = record { n = m .n; p = m .p; k = m .k; free = m .free; cells = cs; values = vs; counts = ns; tasks = ts }
 
   alike : Alike m m′
-  alike = record { same-n = refl; same-p = refl; same-k = refl; cells = C; values = W; counts = N; tasks = T }
+  alike = record { same-n = refl; same-p = refl; same-k = refl; same-free = refl; cells = C; values = W; counts = N; tasks = T }
 
   written-alike : (q : TaskNo) (t : Task) (w : Write) → Alike (written m q t w) (written m′ q t w)
   written-alike q t w =
@@ -154,6 +128,7 @@ module _ (m : Machine) (cs vs ns : List ℕ) (ts : List Task) (C : Agree 0 (m .n
         same-n = refl;
         same-p = refl;
         same-k = refl;
+        same-free = refl;
         cells = cells w;
         values = values w;
         counts = counts w;
@@ -163,19 +138,19 @@ module _ (m : Machine) (cs vs ns : List ℕ) (ts : List Task) (C : Agree 0 (m .n
       cells : (w : Write) → Agree 0 (m .n) (cellsAfter m w) (cellsAfter m′ w)
       cells Nothing = C
       cells (Point x v) = set-agree 0 (m .n) (m .cells) cs (x .0) (v .0) C
-      cells (Count v c) = C
+      cells (Count v c f) = C
       cells (Value v y) = C
 
       values : (w : Write) → Agree 0 (m .k) (valuesAfter m w) (valuesAfter m′ w)
       values Nothing = W
       values (Point x v) = W
-      values (Count v c) = W
+      values (Count v c f) = W
       values (Value v y) = set-agree 0 (m .k) (m .values) vs (v .0) y W
 
       counts : (w : Write) → Agree 0 (m .k) (countsAfter m w) (countsAfter m′ w)
       counts Nothing = N
       counts (Point x v) = N
-      counts (Count v c) = set-agree 0 (m .k) (m .counts) ns (v .0) c N
+      counts (Count v c f) = set-agree 0 (m .k) (m .counts) ns (v .0) c N
       counts (Value v y) = N
 
   carried-alike : (q : TaskNo) (x : Effect) → Alike-after (carriedOf m q x) (carriedOf m′ q x)
@@ -197,7 +172,7 @@ module _ (m : Machine) (cs vs ns : List ℕ) (ts : List Task) (C : Agree 0 (m .n
     unfolding inRange taskOk
     task-range q h =
         let t = getD (m .tasks) q noTask in
-        let all = both (tablesOk (m .n) (m .p) (m .k) (m .cells) (m .counts)) (every (taskOkIn (m .tasks) (m .n) (m .k)) (m .p)) inside .1 in
+        let all = both (tablesOk (m .n) (m .p) (m .k) (m .free) (m .cells) (m .counts)) (every (taskOkIn (m .tasks) (m .n) (m .k)) (m .p)) inside .1 in
         let a = both (isPhase (t .phase) && ltb (t .cell .0) (m .n) && ltb (t .held .0) (m .k) && ltb (t .own .0) (m .k)) (ltb (t .cursor .0) (m .k)) (every-at (taskOkIn (m .tasks) (m .n) (m .k)) (m .p) q all h) in
         let b = both (isPhase (t .phase) && ltb (t .cell .0) (m .n) && ltb (t .held .0) (m .k)) (ltb (t .own .0) (m .k)) (a .0) in
         let c = both (isPhase (t .phase) && ltb (t .cell .0) (m .n)) (ltb (t .held .0) (m .k)) (b .0) in
@@ -212,6 +187,7 @@ module _ (m : Machine) (cs vs ns : List ℕ) (ts : List Task) (C : Agree 0 (m .n
       «held_value» = W .below (t .held .0) (r .held) i;
       tasks = m .p;
       nodes = m .k;
+      free = m .free;
     }
 
     order-same : (e : Entry) → orderOf (m .n) (m .p) e (taskIn (m .tasks) (e .task)) (seenOf m (taskIn (m .tasks) (e .task))) ≡ orderOf (m .n) (m .p) e (taskIn ts (e .task)) (seenOf m′ (taskIn ts (e .task)))
@@ -241,5 +217,5 @@ module _ (m : Machine) (cs vs ns : List ℕ) (ts : List Task) (C : Agree 0 (m .n
 pub entry-alike : (m m′ : Machine) → Alike m m′ → (e : List ℕ) → Alike-after (applyOf m e) (applyOf m′ e)
 entry-alike m m′ L e =
     subst (λ (x : Machine). Alike-after (applyOf m e) (applyOf x e))
-    (λ i. record { n = L .same-n i; p = L .same-p i; k = L .same-k i; cells = m′ .cells; values = m′ .values; counts = m′ .counts; tasks = m′ .tasks })
+    (λ i. record { n = L .same-n i; p = L .same-p i; k = L .same-k i; free = L .same-free i; cells = m′ .cells; values = m′ .values; counts = m′ .counts; tasks = m′ .tasks })
     (tables-alike m (m′ .cells) (m′ .values) (m′ .counts) (m′ .tasks) (L .cells) (L .values) (L .counts) (L .tasks) e)

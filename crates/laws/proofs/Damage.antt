@@ -6,24 +6,26 @@ use mathlib.Core.Bool.{true, _||_, false≢true}
 use mathlib.Core.List.{List, [], _∷_}
 use mathlib.Core.Logic.{_≢_}
 use lib.Dec.{T, eqb}
-use lib.ListN.{getD}
-use borrow.Author.Tests.{lt-ltb, le-ltb, le-leb, ne-eqb}
+use lib.ListN.{getD, set}
+use borrow.Author.Tests.{lt-ltb, le-ltb, le-leb, ne-eqb, eqb-true}
 use Rattle.tallies.proofs.Lists.{within-true, every-true}
-use Rattle.tallies.proofs.Tally.{T→true}
+use Rattle.tallies.specs.Tally.{bit}
+use Rattle.tallies.proofs.Tally.{total-most, bit-le, T→true}
+use Rattle.tallies.proofs.Bounds.{total-part}
 use Rattle.answers.specs.Numbers.{numberOf}
 use Rattle.tasks.specs.Records.{onward, probing, taskOk}
 use Rattle.tasks.specs.Phases.{isPhase, holds}
-use Rattle.steps.specs.Table.{after, raisedOf, loweredOf, counting, leaving, rows, noPhase, effectOf}
+use Rattle.steps.specs.Table.{after, freeAfter, recountedOf, raisedOf, loweredOf, counting, leaving, s6, rows, noPhase, effectOf}
 use Rattle.tables.specs.Tables.{sizesOk, cellOk, countOk, taskOkIn}
 use Rattle.cells.specs.Machine.{seenOf, inRange}
 use Rattle.cells.specs.Apply.{applyOf}
 use Rattle.runs.specs.Counts.{accepted}
 use Rattle.runs.specs.Run.{entriesOf, reportOf, counted, ranFrom, ranOf}
-use Rattle.laws.specs.Types.{Answer, Replied, Refused, Reply, Moved, Loaded, Took, Lost, Released, Good, Gone, Sizes, NoTask, NoKind, NoCell, NotZero, NotNow, NoStep, OtherCell, WrongMark, TooShort, NoRoom, Damaged, TooLong, Task, Effect, Does, Refuses, Machine, Report, Ran}
+use Rattle.laws.specs.Types.{Answer, Replied, Refused, Reply, Moved, Loaded, Took, Lost, Released, Good, Gone, Sizes, NoTask, NoKind, NoCell, NotZero, NotNow, NoStep, OtherCell, WrongMark, TooShort, NoRoom, Damaged, TooLong, NodeNo, Task, Seen, Count, To, Effect, Does, Refuses, Machine, Report, Ran}
 use Rattle.laws.specs.Kept.{Kept}
 use Rattle.laws.proofs.Phases.{by-phase, by-test}
 use Rattle.laws.proofs.Entries.{Damage, by-range, by-step, by-entry}
-use Rattle.laws.proofs.Keeps.{task}
+use Rattle.laws.proofs.Keeps.{task, freed}
 use Rattle.laws.proofs.Table.{entry-keeps}
 use Rattle.laws.proofs.Room.{count-most, can-lower, can-raise}
 use Rattle.laws.proofs.Runs.{Run, damaged, too-long, no-room, tries, run}
@@ -36,6 +38,10 @@ module _ (m : Machine) (K : Kept m) where
       let r = K .sound .each q h in
       rw (T→true (isPhase (task m q .phase)) (r .phase), lt-ltb _ _ (r .cell), lt-ltb _ _ (r .held), lt-ltb _ _ (r .own), lt-ltb _ _ (r .cursor))
 
+  -- no more free nodes than K
+  free-most : m .free ≤ m .k
+  free-most = rw (K .told) (total-most (λ i. bit (eqb (getD (m .counts) i 0) 0)) (m .k) (λ i. bit-le (eqb (getD (m .counts) i 0) 0)))
+
   pub in-range : inRange m ≡ true
   unfolding inRange sizesOk
   in-range =
@@ -45,6 +51,7 @@ module _ (m : Machine) (K : Kept m) where
         within-true 1 16 (m .p) (k .a-task) (k .tasks),
         le-leb (m .n + 2 * m .p) (m .k) (k .room),
         le-leb (m .k) 128 (k .nodes),
+        le-leb (m .free) (m .k) free-most,
         every-true (cellOk (m .cells) (m .k)) (m .n) (λ x h. lt-ltb _ _ (k .pointed x h)),
         every-true (countOk (m .counts) (m .p)) (m .k) (λ i h. le-leb _ _ (count-most m K i h)),
         every-true (taskOkIn (m .tasks) (m .n) (m .k)) (m .p) task-ok,
@@ -59,22 +66,44 @@ module _ (m : Machine) (K : Kept m) where
     abbrev t : Task
     t = task m q
 
-    lowers-well : (f : ℕ) (t′ : Task) (r : Reply) → t .phase ≡ f → T (holds f) → Steady f (counting (loweredOf (t .held) (getD (m .counts) (t .held .0) 0)) t′ r)
-    unfolding loweredOf
-    lowers-well f t′ r w h = rw (ne-eqb (getD (m .counts) (t .held .0) 0) 0 (omega (arith, can-lower m K q hq (rw w h)))) tt
+    abbrev s : Seen
+    s = seenOf m t
 
-    leaves-well : t .phase ≡ 9 → Steady 9 (leaving (loweredOf (t .held) (getD (m .counts) (t .held .0) 0)) t)
+    abbrev c : ℕ
+    c = getD (m .counts) (t .held .0) 0
+
+    -- the count of a node below K can go anywhere, as far as the number of free nodes is concerned
+    recounts : (v : NodeNo) (c d : ℕ) → v .0 < m .k → getD (m .counts) (v .0) 0 ≡ c → recountedOf s v c d ≡ To (Count v d (freeAfter (m .free) c d)) d
+    unfolding recountedOf
+    recounts v c d h e =
+        let after = rw e at (freed m K (v .0) d h) in
+        let was = rw e at (total-part (λ i. bit (eqb (getD (m .counts) i 0) 0)) (m .k) (v .0) h) in
+        let most = total-most (λ i. bit (eqb (getD (set (m .counts) (v .0) d) i 0) 0)) (m .k) (λ i. bit-le (eqb (getD (set (m .counts) (v .0) d) i 0) 0)) in
+        rw (
+          le-ltb (m .free + bit (eqb d 0)) (bit (eqb c 0)) (omega (arith, was, K .told)),
+          le-ltb (m .k) (freeAfter (m .free) c d) (omega (arith, after, most)),
+        )
+
+    lowers-well : (f : ℕ) (t′ : Task) (r : Reply) → t .phase ≡ f → T (holds f) → Steady f (counting (loweredOf s (t .held) c) t′ r)
+    unfolding loweredOf
+    lowers-well f t′ r w h = rw (ne-eqb c 0 (omega (arith, can-lower m K q hq (rw w h))), recounts (t .held) c (c - 1) (K .sound .each q hq .held) refl) tt
+
+    leaves-well : t .phase ≡ 9 → Steady 9 (leaving (loweredOf s (t .held) c) t)
     unfolding loweredOf
     leaves-well w =
-        let c = getD (m .counts) (t .held .0) 0 in
-        rw (ne-eqb c 0 (omega (arith, can-lower m K q hq (rw w tt)))) (by-test (Steady 9) (eqb (c - 1) 1) _ _ (λ y. tt) (λ y. tt))
+        rw (ne-eqb c 0 (omega (arith, can-lower m K q hq (rw w tt))), recounts (t .held) c (c - 1) (K .sound .each q hq .held) refl)
+        (by-test (Steady 9) (eqb (c - 1) 1) _ _ (λ y. tt) (λ y. tt))
 
-    raises-well : (t′ : Task) (r : Reply) → t .phase ≡ 2 → Steady 2 (counting (raisedOf (m .p) (t .held) (getD (m .counts) (t .held .0) 0)) t′ r)
+    raises-well : (t′ : Task) (r : Reply) → t .phase ≡ 2 → Steady 2 (counting (raisedOf s (t .held) c) t′ r)
     unfolding raisedOf
     raises-well t′ r w =
-        let c = getD (m .counts) (t .held .0) 0 in
         let h : c ≤ m .p = can-raise m K q (t .held .0) hq (K .sound .each q hq .held) w in
-        rw (le-ltb (m .p) c h, ne-eqb c 255 (omega (arith, K .sound .tasks))) tt
+        rw (le-ltb (m .p) c h, ne-eqb c 255 (omega (arith, K .sound .tasks)), recounts (t .held) c (c + 1) (K .sound .each q hq .held) refl) tt
+
+    seeks-well : t .phase ≡ 12 → Steady 12 (s6 t s)
+    seeks-well w =
+        by-test (Steady 12) (eqb (getD (m .counts) (t .cursor .0) 0) 0) _ _
+        (λ y. rw (recounts (t .cursor) 0 1 (K .sound .each q hq .cursor) (eqb-true _ 0 y)) tt) (λ y. tt)
 
     pub steady : Steady (t .phase) (effectOf t (seenOf m t))
     unfolding effectOf rows
@@ -83,7 +112,7 @@ module _ (m : Machine) (K : Kept m) where
         (λ w. tt) (λ w. lowers-well 5 (onward t 1) Moved w tt) (λ w. (refl, tt)) (λ w. tt)
         (λ w. by-test (Steady 8) (eqb (t .held .0) (getD (m .cells) (t .cell .0) 0)) _ _ (λ y. tt) (λ y. tt)) leaves-well
         (λ w. lowers-well 11 (onward (probing t (after (m .k) (t .held))) 12) Moved w tt)
-        (λ w. by-test (Steady 12) (eqb (getD (m .counts) (t .cursor .0) 0) 0) _ _ (λ y. tt) (λ y. tt))
+        seeks-well
         (λ w. lowers-well 13 (onward t 0) Lost w tt) (λ w. lowers-well 14 (onward t 0) Released w tt)
         (λ w. by-test (Steady 15) (eqb (t .held .0) (getD (m .cells) (t .cell .0) 0)) _ _ (λ y. tt) (λ y. tt))
         (t .phase) (K .sound .each q hq .phase) refl

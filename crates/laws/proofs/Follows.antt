@@ -67,14 +67,14 @@ module _ (m : Machine) (K : Kept m) (p : TaskNo) (hp : p .0 < m .p) (a : State) 
   stand : (f : ℕ) → t ≡ at f → a .status (p .0) ≡ standing (m .values) f (at f)
   stand f e = sym (rw e at (M .calls (p .0) hp))
 
-  -- the record with t′ for task p, and any counts
-  abbrev turned : Task → List ℕ → Machine
-  turned t′ counts = record { n = m .n; p = m .p; k = m .k; cells = m .cells; values = m .values; counts = counts; tasks = set (m .tasks) (p .0) t′ }
+  -- the record with t′ for task p, any counts and any number of free nodes
+  abbrev turned : ℕ → Task → List ℕ → Machine
+  turned free t′ counts = record { n = m .n; p = m .p; k = m .k; free = free; cells = m .cells; values = m .values; counts = counts; tasks = set (m .tasks) (p .0) t′ }
 
   -- pointers and values stay, and so does the task's part in the sets
-  still : (f : ℕ) (t′ : Task) (counts : List ℕ) (st : ℕ → Status) → t ≡ at f → ((y : ℕ) → linkedAt (node y) y (at f) ≡ linkedAt (node y) y t′)
+  still : {free : ℕ} (f : ℕ) (t′ : Task) (counts : List ℕ) (st : ℕ → Status) → t ≡ at f → ((y : ℕ) → linkedAt (node y) y (at f) ≡ linkedAt (node y) y t′)
       → standing (m .values) (t′ .phase) t′ ≡ st (p .0) → ((q : ℕ) → q ≢ p .0 → st q ≡ a .status q)
-      → Matches (turned t′ counts) (record { cells = a .cells; status = st })
+      → Matches (turned free t′ counts) (record { cells = a .cells; status = st })
   still f t′ counts st e l here there = record {
     vals = M .vals;
     sets = λ y q hy hq. every-task (λ i d. linkedAt (node y) y d ≡ a .cells .member y i) t′ (sym (l y) ∙ link f e y hy) q (λ n. M .sets y q hy hq);
@@ -82,12 +82,12 @@ module _ (m : Machine) (K : Kept m) (p : TaskNo) (hp : p .0 < m .p) (a : State) 
   }
 
   -- figure 1 stutters; or the task's call begins or ends
-  stutter : (f : ℕ) (t′ : Task) (counts : List ℕ) → t ≡ at f → ((y : ℕ) → linkedAt (node y) y (at f) ≡ linkedAt (node y) y t′)
-      → standing (m .values) (t′ .phase) t′ ≡ standing (m .values) f (at f) → Matches (turned t′ counts) a
+  stutter : {free : ℕ} (f : ℕ) (t′ : Task) (counts : List ℕ) → t ≡ at f → ((y : ℕ) → linkedAt (node y) y (at f) ≡ linkedAt (node y) y t′)
+      → standing (m .values) (t′ .phase) t′ ≡ standing (m .values) f (at f) → Matches (turned free t′ counts) a
   stutter f t′ counts e l s = still f t′ counts (a .status) e l (s ∙ sym (stand f e)) (λ q n. refl)
 
-  stands : (f : ℕ) (t′ : Task) (counts : List ℕ) (s : Status) → t ≡ at f → ((y : ℕ) → linkedAt (node y) y (at f) ≡ linkedAt (node y) y t′)
-      → standing (m .values) (t′ .phase) t′ ≡ s → Matches (turned t′ counts) (record { cells = a .cells; status = put (a .status) (p .0) s })
+  stands : {free : ℕ} (f : ℕ) (t′ : Task) (counts : List ℕ) (s : Status) → t ≡ at f → ((y : ℕ) → linkedAt (node y) y (at f) ≡ linkedAt (node y) y t′)
+      → standing (m .values) (t′ .phase) t′ ≡ s → Matches (turned free t′ counts) (record { cells = a .cells; status = put (a .status) (p .0) s })
   stands f t′ counts s e l w = still f t′ counts (put (a .status) (p .0) s) e l (w ∙ sym (put-same (a .status) (p .0) s)) (put-other (a .status) (p .0) s)
 
   -- every task's call, after p's
@@ -184,8 +184,8 @@ module _ (m : Machine) (K : Kept m) (p : TaskNo) (hp : p .0 < m .p) (a : State) 
       off y hy = elim (ℕ-discrete x y) [ yes w ↦ rw w at (sym out) | no w ↦ rw (ne-eqb x y w) at (link 8 e y hy) ]
 
   -- a release at its one step, which also ends it
-  release-acts : (e : t ≡ at 14) (counts : List ℕ)
-      → Follows a (acts (p .0) ∷ ends (p .0) released ∷ []) × Matches (turned (at 0) counts) (afterAll a (acts (p .0) ∷ ends (p .0) released ∷ []))
+  release-acts : {free : ℕ} (e : t ≡ at 14) (counts : List ℕ)
+      → Follows a (acts (p .0) ∷ ends (p .0) released ∷ []) × Matches (turned free (at 0) counts) (afterAll a (acts (p .0) ∷ ends (p .0) released ∷ []))
   release-acts e counts = rw (stand 14 e) (
     (tt, (put-same (a .status) (p .0) (acted released), tt)),
     record {
@@ -199,7 +199,7 @@ module _ (m : Machine) (K : Kept m) (p : TaskNo) (hp : p .0 < m .p) (a : State) 
   -- a validate at its one step, which also ends it: the cells stay, and p's part in S[x] is what the comparison found
   validate-acts : (e : t ≡ at 15) (b : Bool) → eqb (node x) (t .held .0) ≡ b
       → Follows a (acts (p .0) ∷ ends (p .0) (cond b good gone) ∷ [])
-      × Matches (turned (at 6) (m .counts)) (afterAll a (acts (p .0) ∷ ends (p .0) (cond b good gone) ∷ []))
+      × Matches (turned (m .free) (at 6) (m .counts)) (afterAll a (acts (p .0) ∷ ends (p .0) (cond b good gone) ∷ []))
   validate-acts e b q = rw (begun, member-is 15 b refl e q) (
     (tt, (put-same (a .status) (p .0) given, tt)),
     still 15 (at 6) (m .counts) (put later (p .0) quiet) e (λ y. refl) (sym (put-same later (p .0) quiet))

@@ -14,7 +14,7 @@ use Rattle.tallies.proofs.Lists.{both}
 use Rattle.wire.specs.Bytes.{marked, wordAt}
 use Rattle.answers.specs.Numbers.{numberOf}
 use Rattle.tasks.specs.Records.{taskOk}
-use Rattle.steps.specs.Table.{after, raisedOf, loweredOf, rows, effectOf}
+use Rattle.steps.specs.Table.{after, recountedOf, raisedOf, loweredOf, rows, effectOf}
 use Rattle.tables.specs.Tables.{sizesOk}
 use Rattle.entries.specs.Entry.{entryOf, nonzero, outside}
 use Rattle.entries.specs.Order.{loadOf, storeOf, linkedCallOf, callOf, orderOf}
@@ -73,7 +73,7 @@ record Computed : Type 0 where
   busy : used (applied fresh (case10 ++ gos 7 1)) ≡ 4
 
 computed : Computed
-unfolding total over applied applyOf decisionOf judgedOf orderOf callOf loadOf storeOf linkedCallOf entryOf nonzero outside marked wordAt carriedOf inRange sizesOk every taskOk effectOf rows after raisedOf loweredOf setupOf freshOf fillTo
+unfolding total over applied applyOf decisionOf judgedOf orderOf callOf loadOf storeOf linkedCallOf entryOf nonzero outside marked wordAt carriedOf inRange sizesOk every taskOk effectOf rows after recountedOf raisedOf loweredOf setupOf freshOf fillTo
 computed =
     record { steps = refl; most = refl; loads = refl; stores = refl; count = refl; probing = refl; busy = refl }
 

@@ -1,17 +1,17 @@
 -- An accepted setup's record is fresh: it is `Kept`, and it is in the state in which figure 1 starts with the given values. Assumes nothing.
-use Prim.Native.Nat.{ℕ, _+_, _*_, _≤_, _<_}
+use Prim.Native.Nat.{ℕ, _+_, _-_, _*_, _≤_, _<_}
 use native.Mathlib.Omega.{arith}
 use native.Mathlib.Decide.{decLt}
-use mathlib.Core.Path.{_≡_, refl, _∙_}
+use mathlib.Core.Path.{_≡_, refl, sym, ap, _∙_}
 use mathlib.Core.Bool.{true, not, _&&_}
 use mathlib.Core.List.{List}
 use lib.Dec.{eqb, leb, ltb}
 use lib.ListN.{length, getD, replicate, getD-replicate}
-use borrow.Author.Tests.{leb-true, lt-ltb, le-ltb, not-false}
+use borrow.Author.Tests.{leb-true, le-leb, lt-leb, lt-ltb, le-ltb, not-false}
 use Rattle.tallies.specs.Lists.{within}
-use Rattle.tallies.specs.Tally.{bit}
+use Rattle.tallies.specs.Tally.{bit, total}
 use Rattle.tallies.proofs.Lists.{within-bounds, both, fill-length, fill-at, fill-past}
-use Rattle.tallies.proofs.Tally.{bit-le, tally-fill, total-at, total-join, total-same, total-zero}
+use Rattle.tallies.proofs.Tally.{bit-le, tally-fill, total-at, total-join, total-same, total-split, total-zero}
 use Rattle.wire.specs.Bytes.{setupMark, marked}
 use Rattle.tasks.specs.Records.{nodeNo, noTask, idleOwning}
 use Rattle.tasks.specs.Holders.{keeps}
@@ -19,7 +19,7 @@ use Rattle.tables.specs.Tables.{sizesOk, valueGiven}
 use Rattle.cells.specs.Setup.{blankOf, freshOf, setupOf}
 use Rattle.figure1.specs.Histories.{start}
 use Rattle.laws.specs.Types.{Refusal, Sizes as Bad, NotZero, WrongMark, TooShort, Task, Machine, SetUp, Ready, NotSetUp}
-use Rattle.laws.specs.Meaning.{points, claims, pointers, claimers, keepers}
+use Rattle.laws.specs.Meaning.{points, claims, pointers, claimers, keepers, free}
 use Rattle.laws.specs.Kept.{Kept}
 use Rattle.laws.specs.Acts.{Matches}
 use Rattle.laws.proofs.Phases.{by-test}
@@ -83,6 +83,30 @@ module _ (n p k : ℕ) (s : List ℕ) (z : Sizes n p k) where
   unfolding freshOf
   nobody-keeps i = tally-fill (keeps i) idle p (replicate 16 noTask) (z .tasks) ∙ total-zero p
 
+  -- all nodes from n + p on are free, and no other
+  free-at : (i : ℕ) → i < k → bit (eqb (getD (fresh .counts) i 0) 0) ≡ bit (leb (n + p) i)
+  free-at i h =
+      elim (decLt i (n + p)) [
+        | yes l ↦ rw (count-at i h, lt-ltb i (n + p) l, lt-leb (n + p) i l) refl
+        | no l ↦ rw (count-at i h, le-ltb i (n + p) (omega arith), le-leb (n + p) i (omega arith)) refl
+      ]
+
+  fresh-told : fresh .free ≡ free fresh
+  unfolding freshOf
+  fresh-told =
+      let a = n + p in
+      let f : ℕ → ℕ = λ i. bit (eqb (getD (fresh .counts) i 0) 0) in
+      let e : k ≡ a + (k - a) = omega (arith, z .room) in
+      sym (ap (total f) e ∙ omega (
+        arith,
+        z .room,
+        total-join f a (k - a),
+        total-same f (λ i. 0) a (λ i h. free-at i (omega (arith, z .room)) ∙ rw (lt-leb a i h) refl),
+        total-zero a,
+        total-split (λ j. f (a + j)) (λ j. 0) (k - a) (λ j h. omega (arith, free-at (a + j) (omega arith), ap bit (le-leb a (a + j) (omega arith)))),
+        total-zero (k - a),
+      ))
+
   pub fresh-kept : Kept fresh
   unfolding freshOf
   fresh-kept = record {
@@ -100,6 +124,7 @@ module _ (n p k : ℕ) (s : List ℕ) (z : Sizes n p k) where
       pointed = λ x h. rw (cell-at x h) (omega (arith, z .room));
       each = λ q h. rw (task-at q h) (record { phase = omega arith; cell = z .a-cell; held = omega (arith, z .room); own = omega (arith, z .room); cursor = omega (arith, z .room) });
     };
+    told = fresh-told;
     counted = λ i h. omega (arith, count-at i h, due i, nobody-keeps i);
     sole = λ i h. omega (arith, due i, bit-le (ltb i (n + p)));
     held = λ x y hx hy. rw (task-at x hx) (λ b. absurd b);

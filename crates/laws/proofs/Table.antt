@@ -26,7 +26,7 @@ use Rattle.laws.specs.Kept.{InRange, Kept}
 use Rattle.laws.proofs.Phases.{implied}
 use Rattle.laws.proofs.Entries.{by-entry, taskNo}
 use Rattle.laws.proofs.Rows.{Moves, l1, l2, l3-passed, l3-turned, l4, l5, s1, s2-swapped, s2-missed, s3-took, s3-shared, s5, s6-took, s6-busy, s7, r1, v1-good, v1-gone, moves}
-use Rattle.laws.proofs.Keeps.{task, in-list, in-counts, in-values, in-cells, pointed, own-apart, part, pairs, tame, Calm, Leaves, stepped, calm, alone, lowers, claiming}
+use Rattle.laws.proofs.Keeps.{task, in-list, in-counts, in-values, in-cells, pointed, own-apart, part, pairs, tame, Inside, Calm, Local, Leaves, stepped, calm, alone, lowers, claiming}
 
 in-phase : {n k : ℕ} {t : Task} (f : ℕ) → T (isPhase f) → InRange n k t → InRange n k (onward t f)
 in-phase f h r = record { phase = h; cell = r .cell; held = r .held; own = r .own; cursor = r .cursor }
@@ -115,7 +115,7 @@ module _ (m : Machine) (K : Kept m) (p : TaskNo) (hp : p .0 < m .p) where
 
   -- S3 leaves a count of 1: the task itself is all that holds m, and nothing else claims it
   s3-keeps : (e : t ≡ at 9) → getD (m .counts) (t .held .0) 0 - 1 ≡ 1
-      → Leaves m K p hp (at 9) e (onward (owning t (t .held)) 0) (Count (t .held) (getD (m .counts) (t .held .0) 0 - 1))
+      → Local m K p hp (at 9) e (onward (owning t (t .held)) 0) (m .cells) (m .values) (set (m .counts) (t .held .0) (getD (m .counts) (t .held .0) 0 - 1))
   s3-keeps e one =
       let v = t .held .0 in
       claiming m K p hp (at 9) e (t .held) (set (m .counts) v (getD (m .counts) v 0 - 1)) (in-t .held)
@@ -130,7 +130,7 @@ module _ (m : Machine) (K : Kept m) (p : TaskNo) (hp : p .0 < m .p) where
       (λ i h. omega (arith, down-at (m .counts) v i (in-counts m K (in-t .held)) (omega arith)))
 
   -- S6 finds a count of 0: nothing points at, claims or holds the node
-  s6-keeps : (e : t ≡ at 12) → getD (m .counts) (t .cursor .0) 0 ≡ 0 → Leaves m K p hp (at 12) e (onward (owning t (t .cursor)) 0) (Count (t .cursor) 1)
+  s6-keeps : (e : t ≡ at 12) → getD (m .counts) (t .cursor .0) 0 ≡ 0 → Local m K p hp (at 12) e (onward (owning t (t .cursor)) 0) (m .cells) (m .values) (set (m .counts) (t .cursor .0) 1)
   s6-keeps e z =
       let u = t .cursor .0 in
       claiming m K p hp (at 12) e (t .cursor) (set (m .counts) u 1) (in-t .cursor) (omega (arith, K .counted u (in-t .cursor)))
@@ -164,12 +164,33 @@ module _ (m : Machine) (K : Kept m) (p : TaskNo) (hp : p .0 < m .p) where
   row-keeps (v1-good q) e = goes 15 6 e (omega arith) (λ i. omega arith)
   row-keeps (v1-gone q) e = goes 15 6 e (omega arith) (λ i. omega arith)
 
+  -- a row writes inside, and brings the number of free nodes with a count
+  pub row-inside : {n : ℕ} {d : Deed} → Moves t (seenOf m t) n d → Inside m (d .write)
+  row-inside l1 = tt
+  row-inside (l2 h) = (in-t .held, refl)
+  row-inside (l3-passed q) = tt
+  row-inside (l3-turned q) = tt
+  row-inside l4 = tt
+  row-inside (l5 h) = (in-t .held, refl)
+  row-inside s1 = in-t .own
+  row-inside (s2-swapped q) = in-t .cell
+  row-inside (s2-missed q) = tt
+  row-inside (s3-took q) = (in-t .held, refl)
+  row-inside (s3-shared h q) = (in-t .held, refl)
+  row-inside (s5 h) = (in-t .held, refl)
+  row-inside (s6-took q) = (in-t .cursor, rw q refl)
+  row-inside (s6-busy q) = tt
+  row-inside (s7 h) = (in-t .held, refl)
+  row-inside (r1 h) = (in-t .held, refl)
+  row-inside (v1-good q) = tt
+  row-inside (v1-gone q) = tt
+
   pub step-keeps : (d : Deed) → effectOf t (seenOf m t) ≡ Does d → Kept (written m p (d .task) (d .write))
-  step-keeps d q = stepped m K p hp t refl (d .task) (d .write) (row-keeps (moves t (seenOf m t) d q) refl)
+  step-keeps d q = let r = moves t (seenOf m t) d q in stepped m K p hp t refl (d .task) (d .write) (row-keeps r refl) (row-inside r)
 
   -- a call begun changes the task's record, to one that claims, holds and owns what it did
   begun : (f : ℕ) (t′ : Task) (e : t ≡ at f) → Calm m K p hp (at f) e t′ → ((i : ℕ) → claims i (at f) + keeps i (at f) ≡ claims i t′ + keeps i t′) → Kept (written m p t′ Nothing)
-  begun f t′ e c b = stepped m K p hp (at f) e t′ Nothing (alone m K p hp (at f) e t′ c b)
+  begun f t′ e c b = stepped m K p hp (at f) e t′ Nothing (alone m K p hp (at f) e t′ c b) tt
 
   load-keeps : (x : CellNo) → t .phase ≡ 0 → x .0 < m .n → Kept (written m p (begunOf t (Load x)) Nothing)
   load-keeps x q h = begun 0 (begunOf t (Load x)) (ap (onward t) q) (record {

@@ -18,11 +18,12 @@ pub record Agree {A : Type 0} (d : A) (k : ℕ) (l l′ : List A) : Type 0 where
   pub long : length l ≡ length l′
   pub below : (i : ℕ) → i < k → getD l i d ≡ getD l′ i d
 
--- two records have the same sizes, and the same in every place below them
+-- two records have the same sizes and number of free nodes, and the same in every place below the sizes
 pub record Alike (m m′ : Machine) : Type 0 where
   pub same-n : m .n ≡ m′ .n
   pub same-p : m .p ≡ m′ .p
   pub same-k : m .k ≡ m′ .k
+  pub same-free : m .free ≡ m′ .free
   pub cells : Agree 0 (m .n) (m .cells) (m′ .cells)
   pub values : Agree 0 (m .k) (m .values) (m′ .values)
   pub counts : Agree 0 (m .k) (m .counts) (m′ .counts)

@@ -8,7 +8,7 @@ use lib.Dec.{T}
 use Rattle.tasks.specs.Records.{noTask}
 use Rattle.tasks.specs.Phases.{isPhase, live, passed}
 use Rattle.laws.specs.Types.{Task, Machine}
-use Rattle.laws.specs.Meaning.{pointers, claimers, keepers}
+use Rattle.laws.specs.Meaning.{pointers, claimers, keepers, free}
 
 -- every node's count is what is due to it
 abbrev pub Counted : Machine → Type 0
@@ -55,9 +55,10 @@ pub record Sound (m : Machine) : Type 0 where
   pub pointed : (x : ℕ) → x < m .n → getD (m .cells) x 0 < m .k
   pub each : (q : ℕ) → q < m .p → InRange (m .n) (m .k) (getD (m .tasks) q noTask)
 
--- what every step keeps
+-- what every step keeps; the kept number of free nodes is the full count
 pub record Kept (m : Machine) : Type 0 where
   pub sound : Sound m
+  pub told : m .free ≡ free m
   pub counted : Counted m
   pub sole : Sole m
   pub held : Held m

@@ -31,7 +31,7 @@ claimers m i = tally (claims i) (m .p) (m .tasks)
 abbrev pub keepers : Machine → ℕ → ℕ
 keepers m i = tally (keeps i) (m .p) (m .tasks)
 
--- how many nodes below K are in use, and how many are free
+-- how many nodes below K are in use, and how many are free: the full counts, node by node
 abbrev pub used : Machine → ℕ
 used m = total (λ i. bit (ltb 0 (getD (m .counts) i 0))) (m .k)
 

@@ -3,18 +3,22 @@ use Prim.Native.Nat.{ℕ, _+_, _-_, _≤_, _<_}
 use mathlib.Core.Path.{_≡_}
 use mathlib.Core.Logic.{_≢_}
 use Rattle.tasks.specs.Records.{onward, holding, owning, probing}
-use Rattle.steps.specs.Table.{after}
-use Rattle.laws.specs.Types.{Reply, Moved, Loaded, Took, Lost, Released, Good, Gone, Task, Seen, Write, Nothing, Point, Count, Value, Deed}
+use Rattle.steps.specs.Table.{after, freeAfter}
+use Rattle.laws.specs.Types.{NodeNo, Reply, Moved, Loaded, Took, Lost, Released, Good, Gone, Task, Seen, Write, Nothing, Point, Count, Value, Deed}
 
 abbrev pub deed : Task → Write → Reply → Deed
 deed t w r = record { task = t; write = w; reply = r }
 
--- a deed that raises or lowers the count of m
+-- a deed that takes the count of node v from c to d, and the number of free nodes with it
+abbrev pub recounted : Seen → NodeNo → ℕ → ℕ → Task → Reply → Deed
+recounted s v c d t′ r = deed t′ (Count v d (freeAfter (s .free) c d)) r
+
+-- one that raises or lowers the count of m
 abbrev pub raised : Task → Seen → Task → Reply → Deed
-raised t s t′ r = deed t′ (Count (t .held) (s .«held_count» + 1)) r
+raised t s t′ r = recounted s (t .held) (s .«held_count») (s .«held_count» + 1) t′ r
 
 abbrev pub lowered : Task → Seen → Task → Reply → Deed
-lowered t s t′ r = deed t′ (Count (t .held) (s .«held_count» - 1)) r
+lowered t s t′ r = recounted s (t .held) (s .«held_count») (s .«held_count» - 1) t′ r
 
 -- task t, seeing s, makes the deed of phase f's row
 pub data Moves (t : Task) (s : Seen) : ℕ → Deed → Type 0 where
@@ -30,7 +34,7 @@ pub data Moves (t : Task) (s : Seen) : ℕ → Deed → Type 0 where
   s3-took : s .«held_count» - 1 ≡ 1 → Moves t s 9 (lowered t s (onward (owning t (t .held)) 0) Took)
   s3-shared : 0 < s .«held_count» → s .«held_count» - 1 ≢ 1 → Moves t s 9 (lowered t s (onward t 11) Moved)
   s5 : 0 < s .«held_count» → Moves t s 11 (lowered t s (onward (probing t (after (s .nodes) (t .held))) 12) Moved)
-  s6-took : s .«cursor_count» ≡ 0 → Moves t s 12 (deed (onward (owning t (t .cursor)) 0) (Count (t .cursor) 1) Took)
+  s6-took : s .«cursor_count» ≡ 0 → Moves t s 12 (recounted s (t .cursor) 0 1 (onward (owning t (t .cursor)) 0) Took)
   s6-busy : s .«cursor_count» ≢ 0 → Moves t s 12 (deed (onward (probing t (after (s .nodes) (t .cursor))) 12) Nothing Moved)
   s7 : 0 < s .«held_count» → Moves t s 13 (lowered t s (onward t 0) Lost)
   r1 : 0 < s .«held_count» → Moves t s 14 (lowered t s (onward t 0) Released)
