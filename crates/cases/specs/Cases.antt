@@ -5,7 +5,7 @@ use lib.ListN.{replicate}
 use Rattle.laws.specs.Bytes.{setup, entry, go, load, store, release, validate}
 use Rattle.laws.specs.Small.{small}
 use Rattle.faults.specs.Benches.{mended, printed}
-use Rattle.cases.specs.Rows.{Row, sets, enters, runs, gives, counts, moves, loads, stores, validates}
+use Rattle.cases.specs.Rows.{Row, sets, enters, runs, gives, counts, frees, moves, loads, stores, validates, asking}
 
 -- n values of 7
 abbrev pub sevens : ℕ → List ℕ
@@ -102,4 +102,18 @@ cases =
     enters mended small
     (gives (load 0 0) 0 0 0 ∷ moves 0 1 ++ loads 1 0 7 ++ gives (store 1 0 9) 0 1 0 ∷ moves 1 2 ++ counts (2 ∷ 1 ∷ 1 ∷ 0 ∷ 0 ∷ [])
     ∷ gives (go 1) 2 1 0 ∷ counts (1 ∷ 1 ∷ 1 ∷ 0 ∷ 0 ∷ [])
-    ∷ moves 0 1 ++ counts (2 ∷ 1 ∷ 1 ∷ 0 ∷ 0 ∷ []) ∷ gives (go 1) 17 1 0 ∷ []) ∷ []
+    ∷ moves 0 1 ++ counts (2 ∷ 1 ∷ 1 ∷ 0 ∷ 0 ∷ []) ∷ gives (go 1) 17 1 0 ∷ []) ∷
+    -- Item 3. case 10 again, with the free-nodes question after every entry: two are free until S6 takes node 3, and again once S7 leaves node 0
+    enters mended small
+    (frees 2
+    ∷ asking 2 (loads 0 0 7 ++ loads 1 0 7 ++ gives (store 1 0 9) 0 1 0 ∷ moves 1 6)
+    ++ asking 1 (gives (go 1) 2 1 0 ∷ gives (store 0 0 8) 0 0 0 ∷ moves 0 2)
+    ++ asking 2 (gives (go 0) 3 0 0 ∷ gives (go 0) 17 0 0 ∷ [])) ∷
+    -- a load raises a node that is free: task 2 has done L1 when tasks 0 and 1 do case 10, which leaves node 0 free; its L2 takes node 0 into use,
+    -- and its L5, which the check sends it to, gives node 0 up
+    enters mended (setup 1 3 7 (7 ∷ []))
+    (gives (load 2 0) 0 2 0 ∷ moves 2 1 ++ loads 0 0 7 ++ loads 1 0 7 ++ gives (store 1 0 9) 0 1 0 ∷ moves 1 7 ++ gives (go 1) 2 1 0
+    ∷ gives (store 0 0 8) 0 0 0 ∷ moves 0 2 ++ gives (go 0) 3 0 0 ∷ counts (0 ∷ 1 ∷ 1 ∷ 1 ∷ 1 ∷ 0 ∷ 0 ∷ []) ∷ frees 3
+    ∷ moves 2 1 ++ counts (1 ∷ 1 ∷ 1 ∷ 1 ∷ 1 ∷ 0 ∷ 0 ∷ []) ∷ frees 2
+    ∷ moves 2 1 ++ frees 2
+    ∷ moves 2 1 ++ counts (0 ∷ 1 ∷ 1 ∷ 1 ∷ 1 ∷ 0 ∷ 0 ∷ []) ∷ frees 3 ∷ []) ∷ []

@@ -8,16 +8,20 @@ use Rattle.answers.specs.Numbers.{numberOf, valueOf}
 use Rattle.cells.specs.declared.Machine.{Machine}
 use Rattle.cells.specs.declared.Applied.{Applied}
 use Rattle.cells.specs.declared.SetupAnswer.{SetupAnswer}
+use Rattle.cells.specs.declared.FreeCount.{FreeCount}
+use Rattle.cells.specs.Free.{freeOf, freeNumber, freeValue}
 use Rattle.cells.specs.Setup.{setupOf, setupNumber, setupBytes}
 use Rattle.wire.specs.Bytes.{replyOf}
 use Rattle.runs.specs.Run.{sixOf, ranOf, repliesOf}
 use Rattle.laws.specs.Bytes.{go, load, store, validate}
 use Rattle.faults.specs.Benches.{Bench}
 
--- a line of a schedule by hand: an entry's bytes with its reply's number, task and value; or the counts of the nodes below K at that point
+-- a line of a schedule by hand: an entry's bytes with its reply's number, task and value; or the counts of the nodes below K at that point; or
+-- what the free-nodes question is answered there
 pub data Line : Type 0 where
   gives : List ℕ → ℕ → ℕ → ℕ → Line
   counts : List ℕ → Line
+  frees : ℕ → Line
 
 -- a setup's bytes with the number of its answer, 0 where it is taken, and how many bytes it used; or a setup that is taken, and then a
 -- schedule entry by entry on a bench, or the same as one run, with its six numbers
@@ -42,6 +46,11 @@ stores p x y = gives (store p x y) 0 p 0 ∷ moves p 2 ++ gives (go p) 2 p 0 ∷
 abbrev pub validates : ℕ → ℕ → List Line
 validates p r = gives (validate p) 0 p 0 ∷ gives (go p) r p 0 ∷ []
 
+-- after each line the free-nodes question, answered n
+abbrev pub asking : ℕ → List Line → List Line
+asking n [] = []
+asking n (l ∷ ls) = l ∷ frees n ∷ asking n ls
+
 -- two lists are the same
 abbrev pub same : List ℕ → List ℕ → Bool
 same [] [] = true
@@ -53,11 +62,16 @@ same (x ∷ xs) (y ∷ ys) = eqb x y && same xs ys
 abbrev pub replied : Applied → ℕ → ℕ → ℕ → Bool
 replied a number p y = eqb (numberOf (a .answer)) number && (eqb (a .task) p && eqb (valueOf (a .answer)) y)
 
+-- what the free-nodes question was answered
+abbrev pub answered : FreeCount → ℕ → Bool
+answered f n = eqb (freeNumber f) 0 && eqb (freeValue f) n
+
 -- each line in turn
 abbrev pub agrees : Bench → Machine → List Line → Bool
 agrees b m [] = true
 agrees b m (gives e number p y ∷ ls) = let a = b .apply m e in replied a number p y && agrees b (a .machine) ls
 agrees b m (counts cs ∷ ls) = same (take (m .k) (m .counts)) cs && agrees b m ls
+agrees b m (frees n ∷ ls) = answered (freeOf (m .n) (m .p) (m .k) (m .free)) n && agrees b m ls
 
 -- the answer that a setup was given
 abbrev pub setWith : SetupAnswer → ℕ → ℕ → Bool
@@ -68,11 +82,13 @@ abbrev pub schedule : List Line → List ℕ
 schedule [] = []
 schedule (gives e number p y ∷ ls) = e ++ schedule ls
 schedule (counts cs ∷ ls) = schedule ls
+schedule (frees n ∷ ls) = schedule ls
 
 abbrev pub replies : List Line → List ℕ
 replies [] = []
 replies (gives e number p y ∷ ls) = replyOf number p y ++ replies ls
 replies (counts cs ∷ ls) = replies ls
+replies (frees n ∷ ls) = replies ls
 
 -- a whole run on a record, with just room for the replies
 abbrev pub ranRight : Machine → List Line → List ℕ → Bool

@@ -12,7 +12,7 @@ use Rattle.tasks.specs.declared.Task.{Task}
 use Rattle.tasks.specs.Records.{onward, holding, taskOk}
 use Rattle.steps.specs.declared.Effect.{Effect}
 use Rattle.steps.specs.declared.Write.the-variants.{Nothing, Point, Value}
-use Rattle.steps.specs.Table.{Row as TableRow, does, counting, raising, noPhase, rows, effectOf, after, raisedOf, loweredOf}
+use Rattle.steps.specs.Table.{Row as TableRow, does, counting, raising, noPhase, rows, effectOf, after, recountedOf, raisedOf, loweredOf}
 use Rattle.tables.specs.Tables.{nodeIn, valueIn, taskIn, sizesOk}
 use Rattle.entries.specs.declared.Entry.{Entry}
 use Rattle.entries.specs.declared.EntryRead.{EntryRead}
@@ -120,5 +120,5 @@ validating = record { apply = applyBy (set table 15 v1ByValue); passes = checked
 
 -- for `unfolding` lines: all that a setup and an entry compute with, and the five benches
 unfoldable pub computing : Unit {0}
-unfolding every fillTo marked wordAt taskOk rows effectOf after raisedOf loweredOf sizesOk entryOf nonzero outside loadOf storeOf linkedCallOf callOf orderOf carriedOf inRange judgedOf decisionOf applyOf freshOf setupOf mended printed rereading comparing validating
+unfolding every fillTo marked wordAt taskOk rows effectOf after recountedOf raisedOf loweredOf sizesOk entryOf nonzero outside loadOf storeOf linkedCallOf callOf orderOf carriedOf inRange judgedOf decisionOf applyOf freshOf setupOf mended printed rereading comparing validating
 computing = tt
