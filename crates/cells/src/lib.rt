@@ -369,14 +369,7 @@ impl Machine {
     pub fn in_range(self) -> bool
         ensures { λ r. ⌜ r ≡ inRange self ⌝ }
     {
-        if !tables_ok(
-            self.n,
-            self.p,
-            self.k,
-            self.free,
-            &self.cells,
-            &self.counts,
-        ) {
+        if !tables_ok(self.n, self.p, self.k, self.free, &self.cells, &self.counts) {
             return false;
         }
         let ts = self.tasks;

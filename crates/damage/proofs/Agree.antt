@@ -23,5 +23,5 @@ module _ {A : Type 0} where
 pub task-same : (a b : Task) → a .phase ≡ b .phase → a .cell .0 ≡ b .cell .0 → a .value ≡ b .value → a .held .0 ≡ b .held .0 → a .own .0 ≡ b .own .0 → a .cursor .0 ≡ b .cursor .0 → a ≡ b
 task-same a b f x y m o k = λ i. record { phase = f i; cell = record { 0 = x i }; value = y i; held = record { 0 = m i }; own = record { 0 = o i }; cursor = record { 0 = k i } }
 
-pub machine-same : (a b : Machine) → a .n ≡ b .n → a .p ≡ b .p → a .k ≡ b .k → a .cells ≡ b .cells → a .values ≡ b .values → a .counts ≡ b .counts → a .tasks ≡ b .tasks → a ≡ b
-machine-same a b n p k x y c t = λ i. record { n = n i; p = p i; k = k i; cells = x i; values = y i; counts = c i; tasks = t i }
+pub machine-same : (a b : Machine) → a .n ≡ b .n → a .p ≡ b .p → a .k ≡ b .k → a .free ≡ b .free → a .cells ≡ b .cells → a .values ≡ b .values → a .counts ≡ b .counts → a .tasks ≡ b .tasks → a ≡ b
+machine-same a b n p k f x y c t = λ i. record { n = n i; p = p i; k = k i; free = f i; cells = x i; values = y i; counts = c i; tasks = t i }

@@ -1,4 +1,4 @@
-// 22 by the ranges: cell 1, node 50 and task 0 are damaged, and the entry, a load, speaks of cell 0 and task 1.
+// 22 by the ranges: the sizes, the number of free nodes, cell 1, node 50 and task 0 are damaged, and the entry, a load, speaks of cell 0 and task 1.
 use crate::hurts;
 use crate::lines;
 use crate::shows;
@@ -7,9 +7,10 @@ use tasks::TaskNo;
 
 const LOAD: u8 = 1;
 
+// No node is free, so that there are not more than K.
 fn sized(n: u8, p: u8, k: u8) {
     lines::sizes(n, p, k);
-    let mut d = hurts::sound();
+    let mut d = hurts::freed(0);
     d.n = n;
     d.p = p;
     d.k = k;
@@ -29,6 +30,18 @@ pub(crate) fn sizes() {
     sized(2, 2, 6);
     sized(2, 2, 128);
     sized(2, 2, 129);
+}
+
+fn freed(free: u8) {
+    lines::free(free);
+    shows::shows(hurts::freed(free), LOAD);
+}
+
+pub(crate) fn frees() {
+    freed(0);
+    freed(100);
+    freed(101);
+    freed(255);
 }
 
 // Cell 1 points at v, and node 50 has count c.

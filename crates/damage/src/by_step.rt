@@ -1,4 +1,4 @@
-// 22 by the step: the ranges hold, but the count of node 0, which task 1 holds, can't be lowered or raised.
+// 22 by the step: the ranges hold, but the count of node 0, which task 1 holds, can't be lowered or raised, or the number of free nodes can't follow it.
 use crate::hurts;
 use crate::lines;
 use crate::shows;
@@ -12,6 +12,38 @@ fn stepped(phase: u8, count: u8) {
     let mut d = hurts::replaced(TaskNo(1), t);
     d.counts[0] = count;
     shows::shows(d, GO);
+}
+
+// The same where the record has so many nodes free; node 0 is the cursor's too.
+fn stepped_with(free: u8, phase: u8, count: u8) {
+    lines::free(free);
+    lines::step_after(phase, count);
+    let t = hurts::task(phase, 0, 0, 3, 0);
+    let mut d = hurts::replaced(TaskNo(1), t);
+    d.counts[0] = count;
+    d.free = free;
+    shows::shows(d, GO);
+}
+
+pub(crate) fn frees() {
+    // L2 and S6 take a node that is free, if there is one to be had.
+    stepped_with(1, 2, 0);
+    stepped_with(0, 2, 0);
+    stepped_with(0, 2, 1);
+    stepped_with(1, 12, 0);
+    stepped_with(0, 12, 0);
+    stepped_with(0, 12, 1);
+    // A count that comes to 0 frees a node, unless all are free already.
+    stepped_with(99, 5, 1);
+    stepped_with(100, 5, 1);
+    stepped_with(100, 5, 2);
+    stepped_with(100, 9, 1);
+    stepped_with(100, 9, 2);
+    stepped_with(100, 11, 1);
+    stepped_with(100, 13, 1);
+    stepped_with(100, 14, 1);
+    // More than K are damage by the ranges, with a go as well as with the load above.
+    stepped_with(101, 14, 2);
 }
 
 pub(crate) fn steps() {

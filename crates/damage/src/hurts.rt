@@ -1,4 +1,4 @@
-// A setup's record, whole or with one task's record replaced.
+// A setup's record, whole or with one thing in it replaced.
 use cells::Machine;
 use tasks::CellNo;
 use tasks::NodeNo;
@@ -11,6 +11,13 @@ pub(crate) fn sound() -> Machine {
     let a = Machine::setup(&s);
     let m = a.machine;
     m
+}
+
+// With another number of free nodes than its 96.
+pub(crate) fn freed(free: u8) -> Machine {
+    let mut d = sound();
+    d.free = free;
+    d
 }
 
 // A task's record from plain numbers, as only a damage can make it.

@@ -1,5 +1,6 @@
 // The parts of a line. They stand apart from the records: a text in a function that has a record makes its check long.
 use answers::Answer;
+use cells::FreeCount;
 use runs::Report;
 
 // A word, then a number.
@@ -19,6 +20,15 @@ pub(crate) fn sizes(n: u8, p: u8, k: u8) {
     named(b"N", n as u64);
     named(b" P", p as u64);
     named(b" K", k as u64);
+}
+
+pub(crate) fn free(n: u8) {
+    named(b"free", n as u64);
+}
+
+pub(crate) fn step_after(phase: u8, count: u8) {
+    io::write_all(1, b", ");
+    step(phase, count);
 }
 
 pub(crate) fn tables(v: u8, c: u8) {
@@ -69,6 +79,14 @@ pub(crate) fn report(r: Report) {
     number(r.load_steps as u64);
     number(r.turned_back as u64);
     number(r.swaps as u64);
+}
+
+// The answer to the free-nodes question: number, value.
+pub(crate) fn question(f: FreeCount) {
+    io::write_all(1, b": question");
+    number(cells::free_number(f) as u64);
+    number(cells::free_value(f) as u64);
+    io::write_all(1, b"\n");
 }
 
 // Whether a record is the one that it is compared with.

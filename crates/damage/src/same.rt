@@ -73,8 +73,8 @@ fn same_records(a: [Task; 16], b: [Task; 16]) -> bool
     true
 }
 
-fn same_sizes(n: u8, p: u8, k: u8, n2: u8, p2: u8, k2: u8) -> bool
-    ensures { λ r. ⌜ (r ≡ true → (n ≡ n2) × (p ≡ p2) × (k ≡ k2)) ⌝ }
+fn same_numbers(n: u8, p: u8, k: u8, f: u8, n2: u8, p2: u8, k2: u8, f2: u8) -> bool
+    ensures { λ r. ⌜ (r ≡ true → (n ≡ n2) × (p ≡ p2) × (k ≡ k2) × (f ≡ f2)) ⌝ }
 {
     if n != n2 {
         return false;
@@ -82,7 +82,10 @@ fn same_sizes(n: u8, p: u8, k: u8, n2: u8, p2: u8, k2: u8) -> bool
     if p != p2 {
         return false;
     }
-    k == k2
+    if k != k2 {
+        return false;
+    }
+    f == f2
 }
 
 fn all(a: bool, b: bool, c: bool, d: bool, e: bool) -> bool
@@ -106,7 +109,6 @@ fn all(a: bool, b: bool, c: bool, d: bool, e: bool) -> bool
 pub(crate) fn same(a: Machine, b: Machine) -> bool
     ensures { λ r. ⌜ (r ≡ true → a ≡ b) ⌝ }
 {
-    let sizes = same_sizes(a.n, a.p, a.k, b.n, b.p, b.k);
     let x = a.cells;
     let y = b.cells;
     let cells = same_bytes(&x, &y);
@@ -119,5 +121,6 @@ pub(crate) fn same(a: Machine, b: Machine) -> bool
     let ts = a.tasks;
     let us = b.tasks;
     let tasks = same_records(ts, us);
-    all(sizes, cells, values, counts, tasks)
+    let numbers = same_numbers(a.n, a.p, a.k, a.free, b.n, b.p, b.k, b.free);
+    all(cells, values, counts, tasks, numbers)
 }

@@ -239,7 +239,11 @@ pub fn step(t: Task, s: Seen) -> Effect
         1..=5 => load_step(t, s),
         6 => Effect::Refuses(Refusal::NoStep),
         7..=9 | 11..=13 => store_step(t, s),
-        14 => settled(lowered(s, t.held, s.held_count), t.onward(0), Reply::Released),
+        14 => settled(
+            lowered(s, t.held, s.held_count),
+            t.onward(0),
+            Reply::Released,
+        ),
         15 => validate_step(t, s),
         _ => Effect::Refuses(Refusal::Damaged),
     }
