@@ -28,6 +28,9 @@ struct validates {
 struct coverage {
     /* accepted entries by the phase they found their task in */
     unsigned long phase[PHASES];
+    /* those that leave one free node less, and one more, in the same way */
+    unsigned long taken[PHASES];
+    unsigned long freed[PHASES];
     /* replies and refusals; a refused setup counts too */
     unsigned long number[NUMBERS];
     /* refusal given, and another fault that the same bytes had */
@@ -54,10 +57,15 @@ struct coverage {
     unsigned long turned_back;
     unsigned long turned_two;       /* inputs with two tasks or more turned back */
     unsigned long came_back;        /* checks passed after the node left and returned */
-    unsigned long raised_free;      /* L2 on a node with count 0 */
     unsigned long lost_equal;       /* stores lost to an equal value */
     unsigned long most_busy;        /* tasks in a call or linked at once */
     struct validates validates;
+};
+
+/* Something that has to be met at least once. */
+struct row {
+    const char *what;
+    unsigned long met;
 };
 
 /* Walks one input and adds what it meets. */
@@ -68,5 +76,9 @@ void cover(struct coverage *c, const uint8_t *input, size_t length);
  * that was never met.  Returns the number of such lines.
  */
 unsigned coverage_print(FILE *out, const struct coverage *c);
+
+/* The same for a table of its own, each row of which is about such a thing. */
+unsigned coverage_rows(FILE *out, const char *thing, const struct row *rows,
+                       size_t count);
 
 #endif
