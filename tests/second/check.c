@@ -706,37 +706,43 @@ static void check_runs(void)
     CHECK(r.refusal == 0 && r.accepted == 0);
 }
 
-/* S5 gives node 3 back, S6 takes node 4, and then there is no step to make. */
+/* S5 gives node 3 back, S6 takes node 4, a load begins, and another can't. */
 static void check_display(free_question *ask, size_t room)
 {
     static const uint8_t schedule[] = {
         0x45, 0x4E, 1, GO, 0, 0, 0, 0, 0, 0,
         0x45, 0x4E, 1, GO, 0, 0, 0, 0, 0, 0,
-        0x45, 0x4E, 1, GO, 0, 0, 0, 0, 0, 0,
+        0x45, 0x4E, 1, LOAD, 0, 0, 0, 0, 0, 0,
+        0x45, 0x4E, 1, LOAD, 0, 0, 0, 0, 0, 0,
     };
-    static const uint8_t due[] = { 2, 1, 1 };
-    uint8_t shown[5] = { 99, 99, 99, 99, 99 }, replies[24];
+    static const uint8_t due[] = { 2, 1, 1, 1 };
+    uint8_t shown[6] = { 99, 99, 99, 99, 99, 99 }, replies[32];
     struct display d = { ask, shown, room };
     struct machine m = facing(S5, 1, 1), damaged = facing(S5, 1, 6);
     struct report r;
 
     /* no entry is tried: the display has nothing to show */
-    r = bench_run_shown(&damaged, schedule, sizeof schedule, replies, 24, &d);
+    r = bench_run_shown(&damaged, schedule, sizeof schedule, replies, 32, &d);
     CHECK(r.refusal == DAMAGED && r.accepted == 0);
-    r = bench_run_shown(&m, schedule, sizeof schedule, replies, 23, &d);
+    r = bench_run_shown(&m, schedule, sizeof schedule, replies, 31, &d);
     CHECK(r.refusal == NO_ROOM && r.accepted == 0);
     for (size_t i = 0; i < sizeof shown; i++)
         CHECK(shown[i] == 99);
 
-    r = bench_run_shown(&m, schedule, sizeof schedule, replies, 24, &d);
-    CHECK(r.refusal == BAD_GO && r.accepted == 2);
+    r = bench_run_shown(&m, schedule, sizeof schedule, replies, 32, &d);
+    CHECK(r.refusal == BAD_CALL && r.accepted == 3);
     for (size_t i = 0; i < sizeof shown; i++)
         CHECK(shown[i] == (i < room && i < sizeof due ? due[i] : 99));
+
+    /* refused at the first entry, which is tried all the same */
+    r = bench_run_shown(&m, schedule + 30, 10, replies, 32, &d);
+    CHECK(r.refusal == BAD_CALL && r.accepted == 0);
+    CHECK(shown[0] == (room > 0 ? 1 : 99));
 }
 
 static void check_displays(void)
 {
-    for (size_t room = 0; room <= 5; room++) {
+    for (size_t room = 0; room <= 6; room++) {
         check_display(bench_free, room);
         check_display(bench_free_counted, room);
     }
