@@ -403,7 +403,7 @@ static unsigned print_stores(FILE *out, const struct coverage *c)
     return coverage_rows(out, "store", rows, COUNT_OF(rows));
 }
 
-/* Not S3 among those that leave more: its own task holds m until S5. */
+/* S3 can't leave one more: its own task still holds m. */
 static unsigned print_free(FILE *out, const struct coverage *c)
 {
     const struct row rows[] = {

@@ -62,12 +62,6 @@ struct coverage {
     struct validates validates;
 };
 
-/* Something that has to be met at least once. */
-struct row {
-    const char *what;
-    unsigned long met;
-};
-
 /* Walks one input and adds what it meets. */
 void cover(struct coverage *c, const uint8_t *input, size_t length);
 
@@ -77,7 +71,13 @@ void cover(struct coverage *c, const uint8_t *input, size_t length);
  */
 unsigned coverage_print(FILE *out, const struct coverage *c);
 
-/* The same for a table of its own, each row of which is about such a thing. */
+/* Something that has to be met at least once. */
+struct row {
+    const char *what;
+    unsigned long met;
+};
+
+/* A table of such things under the name of what they are about, in the same way. */
 unsigned coverage_rows(FILE *out, const char *thing, const struct row *rows,
                        size_t count);
 

@@ -387,6 +387,19 @@ static void check_free_in_case_10(void)
     CHECK(counts_are(&m, 0, 1, 1, 1, 0));
 }
 
+/* S5 leaves 0 where the other holder has released since S3. */
+static void check_free_at_s5(void)
+{
+    struct machine m = small();
+
+    CHECK(leave_free(&m, 0, LOAD, 0, "22222"));
+    CHECK(leave_free(&m, 1, LOAD, 0, "22222"));
+    CHECK(leave_free(&m, 1, STORE, 9, "2222"));
+    CHECK(leave_free(&m, 0, RELEASE, 0, "22"));
+    CHECK(leave_free(&m, 1, GO, 0, "3332"));
+    CHECK(m.task[1].own == 3 && counts_are(&m, 0, 1, 1, 1, 0));
+}
+
 /*
  * A load raises a free node.  Task 0 reads node 0 and stands; task 1 stores
  * while task 2 is linked too, so that it can't keep node 0 and takes node 4;
@@ -804,6 +817,7 @@ int main(void)
     check_changes();
     check_fresh_totals();
     check_free_in_case_10();
+    check_free_at_s5();
     check_free_raised();
     check_free_question();
     CHECK(answered_by_sizes());
