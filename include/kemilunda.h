@@ -1,8 +1,8 @@
 /*
  * The proved step bench for C. Link target/staticlib/libkemilunda.a, which
  * `rt staticlib kemilunda` makes. It keeps no state, and asks the linker for
- * memcpy, memset, memmove and memcmp at most (tests/link/run looks). A call of
- * kemilunda_run takes some 5.5 KB of stack (docs/SPEED.md).
+ * memcpy, memset, memmove and memcmp at most (tests/link/run looks). What stack
+ * a call takes stands in docs/SPEED.md.
  *
  * Every function takes any bytes at all. What each one gives is proved; the
  * proofs are about the Rattle source, not about this file or the compiler.
@@ -62,11 +62,12 @@ size_t kemilunda_setup_bytes(const uint8_t *input, size_t input_size);
  *   19  the first two bytes are not 45 4E
  *   20  the last entry is cut
  *
- * 22, a damaged machine (one with a task in phase 10 or above 15, say), is never
- * given here: every run starts from a fresh machine, and no step damages one.
+ * 22, a damaged machine (one with a task in phase 10 or above 15, say, or with
+ * more nodes kept as free than it has), is never given here: every run starts
+ * from a fresh machine, and no step damages one.
  */
 
-/* Where a run's numbers stand in the last argument of kemilunda_run. */
+/* Where a run's numbers stand in NUMBERS, the last argument of both runs. */
 enum {
     KEMILUNDA_ACCEPTED,    /* entries accepted */
     KEMILUNDA_REFUSAL,     /* the refusal that ended the run, or 0 */
@@ -95,6 +96,25 @@ enum {
 uint32_t kemilunda_run(const uint8_t *input, size_t input_size,
                        uint8_t *replies, size_t replies_size,
                        uint32_t numbers[KEMILUNDA_NUMBERS]);
+
+/*
+ * The same run, with the same result, replies and numbers, for a display that
+ * shows after every entry how many nodes are free: those with count 0, which a
+ * store may take. The answers come from a total that the steps keep; no nodes
+ * are counted.
+ *
+ * FREE_NODES starts with one byte for each entry that was tried, the refused one
+ * included: how many nodes are free after it. Before the first entry these are
+ * all but one for each cell and one for each task. With less room FREE_NODES
+ * gets the first of the bytes, which is no refusal; what it has behind them
+ * stays. Where the setup is refused, or no entry is tried, all of it stays.
+ *
+ * INPUT, REPLIES, FREE_NODES and NUMBERS must not overlap.
+ */
+uint32_t kemilunda_run_free(const uint8_t *input, size_t input_size,
+                            uint8_t *replies, size_t replies_size,
+                            uint8_t *free_nodes, size_t free_nodes_size,
+                            uint32_t numbers[KEMILUNDA_NUMBERS]);
 
 #ifdef __cplusplus
 }

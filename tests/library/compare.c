@@ -2,10 +2,11 @@
  * library FIRST_SEED COUNT KEEP_DIR
  *
  * Runs the library for C and the second program on one random input a seed,
- * in this process, with reply buffers of several sizes, and compares all that
- * the header promises: results, numbers, replies and the bytes that are left
- * alone.  Exit status: 0 all equal and everything reachable met, 1
- * differences, 2 could not run, 3 all equal but something reachable never met.
+ * in this process, with buffers of several sizes, and compares all that the
+ * header promises: results, numbers, replies, free nodes and the bytes that are
+ * left alone.  The second program counts the free nodes one by one.  Exit
+ * status: 0 all equal and everything reachable met, 1 differences, 2 could not
+ * run, 3 all equal but something reachable never met.
  */
 #include "../random/coverage.h"
 #include "../random/driver.h"
@@ -20,6 +21,7 @@
 enum {
     /* a schedule that is refused for its length may come with room enough */
     MOST_ROOM = REPLY_BYTES * (MAX_GENERATED / ENTRY_BYTES + 2),
+    MOST_FREE = MAX_GENERATED / ENTRY_BYTES + 16,
     MARGIN = 61, /* odd, so that the replies start at no even address */
     FULL_LISTINGS = 10 /* later differences are shown without one */
 };
@@ -29,14 +31,17 @@ struct trial {
     uint64_t seed;
     const uint8_t *input;
     size_t length;
-    size_t room; /* for replies */
+    size_t room;      /* for replies */
+    bool asks;        /* how many nodes are free, after every entry */
+    size_t free_room; /* for the answers; 0 where it doesn't ask */
 };
 
-/* What the call gave, and its reply buffer between two margins. */
+/* What the call gave, and each of its buffers between two margins. */
 struct outcome {
     uint32_t result;
     uint32_t numbers[KEMILUNDA_NUMBERS];
-    uint8_t bytes[MARGIN + MOST_ROOM + MARGIN];
+    uint8_t replies[MARGIN + MOST_ROOM + MARGIN];
+    uint8_t free_nodes[MARGIN + MOST_FREE + MARGIN];
 };
 
 /* Before a call every byte and number has a value that depends on its place. */
@@ -51,7 +56,9 @@ static void prepare(struct outcome *o, const struct trial *t)
     for (size_t i = 0; i < KEMILUNDA_NUMBERS; i++)
         o->numbers[i] = (uint32_t)(t->seed * 2654435761u + i);
     for (size_t i = 0; i < MARGIN + t->room + MARGIN; i++)
-        o->bytes[i] = byte_before(t, i);
+        o->replies[i] = byte_before(t, i);
+    for (size_t i = 0; i < MARGIN + t->free_room + MARGIN; i++)
+        o->free_nodes[i] = byte_before(t, i);
 }
 
 /* The two programs ------------------------------------------------------- */
@@ -59,12 +66,18 @@ static void prepare(struct outcome *o, const struct trial *t)
 static void run_library(struct outcome *o, const struct trial *t)
 {
     prepare(o, t);
-    o->result = kemilunda_run(t->input, t->length, o->bytes + MARGIN, t->room,
-                              o->numbers);
+    if (t->asks)
+        o->result = kemilunda_run_free(t->input, t->length, o->replies + MARGIN,
+                                       t->room, o->free_nodes + MARGIN,
+                                       t->free_room, o->numbers);
+    else
+        o->result = kemilunda_run(t->input, t->length, o->replies + MARGIN,
+                                  t->room, o->numbers);
 }
 
 static void run_second(struct outcome *o, const struct trial *t)
 {
+    struct display d = { bench_free_counted, o->free_nodes + MARGIN, t->free_room };
     struct machine m;
     size_t used;
 
@@ -73,8 +86,8 @@ static void run_second(struct outcome *o, const struct trial *t)
     if (o->result != 0)
         return;
 
-    struct report r = bench_run(&m, t->input + used, t->length - used,
-                                o->bytes + MARGIN, t->room);
+    struct report r = bench_run_shown(&m, t->input + used, t->length - used,
+                                      o->replies + MARGIN, t->room, &d);
 
     o->numbers[KEMILUNDA_ACCEPTED] = r.accepted;
     o->numbers[KEMILUNDA_REFUSAL] = r.refusal;
@@ -99,8 +112,11 @@ static size_t replies_due(const struct outcome *o)
 
 static void print_trial(const struct trial *t)
 {
-    printf("seed %llu, room for %zu reply bytes: ", (unsigned long long)t->seed,
+    printf("seed %llu, room for %zu reply bytes", (unsigned long long)t->seed,
            t->room);
+    if (t->asks)
+        printf(" and %zu answers", t->free_room);
+    printf(": ");
 }
 
 /* Each of these says what differs and returns true, or says nothing. */
@@ -129,36 +145,109 @@ static bool numbers_differ(const struct trial *t, const struct outcome *library,
     return found;
 }
 
-static bool bytes_differ(const struct trial *t, const struct outcome *library,
-                         const struct outcome *second, size_t *last)
-{
-    size_t size = MARGIN + t->room + MARGIN, i = 0;
+/* One of the two buffers, and how many of its bytes go with one entry. */
+struct buffer {
+    const char *name;
+    size_t room;
+    size_t each;
+};
 
-    if (memcmp(library->bytes, second->bytes, size) == 0)
+static bool bytes_differ(const struct trial *t, struct buffer b,
+                         const uint8_t *library, const uint8_t *second,
+                         size_t *last)
+{
+    size_t size = MARGIN + b.room + MARGIN, i = 0;
+
+    if (memcmp(library, second, size) == 0)
         return false;
-    while (library->bytes[i] == second->bytes[i])
+    while (library[i] == second[i])
         i++;
     print_trial(t);
-    printf("byte %ld: library %02X, second %02X\n", (long)i - MARGIN,
-           library->bytes[i], second->bytes[i]);
-    if (i >= MARGIN && i < MARGIN + t->room)
-        *last = (i - MARGIN) / REPLY_BYTES + 1; /* later entries had no part in it */
+    printf("%s, byte %ld: library %02X, second %02X\n", b.name,
+           (long)i - MARGIN, library[i], second[i]);
+    if (i >= MARGIN && i < MARGIN + b.room)
+        *last = (i - MARGIN) / b.each + 1; /* later entries had no part in it */
     return true;
 }
 
 /* Held to the header, not to the second program. */
-static bool wrote_elsewhere(const struct trial *t, const struct outcome *o)
+static bool wrote_elsewhere(const struct trial *t, struct buffer b,
+                            const uint8_t *bytes, size_t entries)
 {
-    size_t from = MARGIN, to = MARGIN + REPLY_BYTES * replies_due(o);
+    size_t from = MARGIN, to = MARGIN + b.each * entries;
 
-    for (size_t i = 0; i < MARGIN + t->room + MARGIN; i++) {
-        if ((i < from || i >= to) && o->bytes[i] != byte_before(t, i)) {
+    if (to > MARGIN + b.room)
+        to = MARGIN + b.room;
+    for (size_t i = 0; i < MARGIN + b.room + MARGIN; i++) {
+        if ((i < from || i >= to) && bytes[i] != byte_before(t, i)) {
             print_trial(t);
-            printf("byte %ld is no reply's, but changed\n", (long)i - MARGIN);
+            printf("%s, byte %ld is no entry's, but changed\n", b.name,
+                   (long)i - MARGIN);
             return true;
         }
     }
     return false;
+}
+
+static bool buffers_differ(const struct trial *t, const struct outcome *library,
+                           const struct outcome *second, size_t *last)
+{
+    struct buffer replies = { "replies", t->room, REPLY_BYTES };
+    struct buffer free_nodes = { "free nodes", t->free_room, 1 };
+    size_t entries = replies_due(library);
+
+    return bytes_differ(t, replies, library->replies, second->replies, last) ||
+           bytes_differ(t, free_nodes, library->free_nodes, second->free_nodes,
+                        last) ||
+           wrote_elsewhere(t, replies, library->replies, entries) ||
+           wrote_elsewhere(t, free_nodes, library->free_nodes, entries);
+}
+
+/* Calls of kemilunda_run_free -------------------------------------------- */
+
+/* By the room that FREE_NODES has, where there are answers and where not. */
+struct asked {
+    unsigned long none;
+    unsigned long some;
+    unsigned long all;
+    unsigned long more;
+    unsigned long refused;  /* the last answer is a refused entry's */
+    unsigned long setup;    /* no answers to the room: the setup is refused, */
+    unsigned long no_room;  /* the replies have none, */
+    unsigned long too_long; /* or the schedule is too long */
+};
+
+static void cover_asked(struct asked *a, const struct trial *t,
+                        const struct outcome *o)
+{
+    size_t due = replies_due(o), room = t->free_room;
+    uint32_t refusal = o->result == 0 ? o->numbers[KEMILUNDA_REFUSAL] : 0;
+
+    a->none += due > 0 && room == 0;
+    a->some += room > 0 && room < due;
+    a->all += due > 0 && room == due;
+    a->more += due > 0 && room > due;
+    a->refused += due > 0 && room >= due && refusal != 0;
+    a->setup += room > 0 && o->result != 0;
+    a->no_room += room > 0 && refusal == NO_ROOM;
+    a->too_long += room > 0 && refusal == TOO_LONG;
+}
+
+static unsigned print_asked(FILE *out, const struct asked *a)
+{
+    const struct row rows[] = {
+        { "no room for an answer", a->none },
+        { "room for some answers", a->some },
+        { "room for all answers", a->all },
+        { "room for more than all", a->more },
+        { "a refused entry's answer", a->refused },
+        { "all room stays, the setup is refused", a->setup },
+        { "all room stays, 21", a->no_room },
+        { "all room stays, 23", a->too_long },
+    };
+
+    return coverage_rows(out, "kemilunda_run_free call", rows,
+                         sizeof rows / sizeof rows[0]);
 }
 
 /* One seed --------------------------------------------------------------- */
@@ -168,6 +257,7 @@ struct tally {
     unsigned long runs;
     unsigned long differences;
     struct coverage coverage;
+    struct asked asked;
 };
 
 /* Both functions about the setup; *used is its length by the second program. */
@@ -182,42 +272,75 @@ static bool setups_differ(const struct trial *t, size_t *used)
     return found;
 }
 
-static bool runs_differ(struct tally *tally, struct trial t, size_t room,
-                        size_t *last)
+static bool trial_differs(struct tally *tally, const struct trial *t,
+                          size_t *last)
 {
     static struct outcome library, second;
     bool found;
 
-    t.room = room;
-    run_library(&library, &t);
-    run_second(&second, &t);
+    run_library(&library, t);
+    run_second(&second, t);
     tally->runs++;
     if (second.result == 0 && second.numbers[KEMILUNDA_REFUSAL] == NO_ROOM)
         tally->coverage.number[NO_ROOM]++;
+    if (t->asks)
+        cover_asked(&tally->asked, t, &second);
 
-    found = differ(&t, "result", library.result, second.result);
-    found |= numbers_differ(&t, &library, &second);
-    found |= bytes_differ(&t, &library, &second, last);
-    return found || wrote_elsewhere(&t, &library);
+    found = differ(t, "result", library.result, second.result);
+    found |= numbers_differ(t, &library, &second);
+    return buffers_differ(t, &library, &second, last) || found;
+}
+
+static bool runs_differ(struct tally *tally, struct trial t, size_t room,
+                        size_t *last)
+{
+    t.room = room;
+    return trial_differs(tally, &t, last);
+}
+
+static bool asked_differ(struct tally *tally, struct trial t, size_t room,
+                         size_t free_room, size_t *last)
+{
+    t.room = room;
+    t.asks = true;
+    t.free_room = free_room;
+    return trial_differs(tally, &t, last);
+}
+
+/* The entries that are tried where the replies have room. */
+static size_t entries_tried(struct trial t, size_t room)
+{
+    static struct outcome second;
+
+    t.room = room;
+    run_second(&second, &t);
+    return replies_due(&second);
 }
 
 static void compare(uint64_t seed, const char *dir, struct tally *tally)
 {
     static uint8_t input[MAX_GENERATED];
-    struct trial t = { seed, input, generate(seed, input, sizeof input), 0 };
+    struct trial t = { .seed = seed, .input = input,
+                       .length = generate(seed, input, sizeof input) };
     size_t last = SIZE_MAX; /* entries worth showing */
     size_t used;
     bool found = setups_differ(&t, &used);
     /* for every entry; after a refused setup for as many as its bytes could be */
     size_t exact = REPLY_BYTES * ((t.length - used + ENTRY_BYTES - 1) / ENTRY_BYTES);
+    size_t tried = entries_tried(t, exact);
 
     tally->inputs++;
     cover(&tally->coverage, input, t.length);
     found = found || runs_differ(tally, t, exact, &last) ||
             runs_differ(tally, t, exact + 1 + seed % 15, &last);
+    found = found || asked_differ(tally, t, exact, tried, &last) ||
+            asked_differ(tally, t, exact, tried + 1 + seed % 15, &last);
+    if (!found && tried > 0)
+        found = asked_differ(tally, t, exact + 1, seed % tried, &last);
     if (!found && exact > 0)
         found = runs_differ(tally, t, exact - 1, &last) ||
-                runs_differ(tally, t, seed % exact, &last);
+                runs_differ(tally, t, seed % exact, &last) ||
+                asked_differ(tally, t, seed % exact, tried, &last);
     if (!found)
         return;
 
@@ -254,6 +377,7 @@ int main(int argc, char **argv)
         printf("never met: refusal %d\n", NO_ROOM);
         never++;
     }
+    never += print_asked(stdout, &tally.asked);
     printf("%.1f seconds, %lu runs, %.1f MB of input\n", took, tally.runs,
            (double)tally.coverage.bytes / 1e6);
     if (never > 0)

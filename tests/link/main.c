@@ -1,8 +1,9 @@
 /*
  * What a C program has to do to use the proved step bench: one header, one
  * archive, buffers of its own.  Prints document 01's case 3 from its replies,
- * what becomes of a setup and of a reply buffer that are refused, and what a
- * validate in place of the store finds.
+ * what becomes of a setup and of a reply buffer that are refused, what a
+ * validate in place of the store finds, and how many nodes are free after each
+ * entry of cases 3 and 10.
  */
 #include <kemilunda.h>
 #include <stdio.h>
@@ -12,11 +13,12 @@ enum {
     ENTRIES = 9,
     REPLY = 8,
     ROOM = REPLY * ENTRIES,
+    MOST = 22, /* entries, those of case 10 */
     POOL = 4, /* where the size of the pool stands in a setup */
     STORE = 60, /* where the store's entry begins */
     KIND = 3,
     VALUE = 6,
-    UNTOUCHED = 0xAA
+    UNTOUCHED = 0xAA /* no number of free nodes: there are 128 at most */
 };
 
 static const uint8_t CASE_3[] = {
@@ -31,6 +33,20 @@ static const uint8_t CASE_3[] = {
     0x45, 0x4E, 0, 0, 0, 0, 0, 0, 0, 0, /* go, three times */
     0x45, 0x4E, 0, 0, 0, 0, 0, 0, 0, 0,
     0x45, 0x4E, 0, 0, 0, 0, 0, 0, 0, 0,
+};
+
+#define ENTRY(task, kind, value) 0x45, 0x4E, task, kind, 0, 0, value, 0, 0, 0
+#define GO(task) ENTRY(task, 0, 0)
+#define LOADED(task) ENTRY(task, 1, 0), GO(task), GO(task), GO(task), GO(task)
+
+static const uint8_t CASE_10[] = {
+    0x53, 0x55, 1, 2, 5, 0, /* setup: 1 cell, 2 tasks, 5 nodes */
+    7, 0, 0, 0,
+    LOADED(0), LOADED(1),
+    ENTRY(1, 2, 9),         /* task 1: store 9 to cell 0, which takes node 3 */
+    GO(1), GO(1), GO(1), GO(1), GO(1), GO(1), GO(1),
+    ENTRY(0, 2, 8),         /* task 0: store 8, lost, which gives node 0 back */
+    GO(0), GO(0), GO(0)
 };
 
 static void print_reply(const uint8_t *reply)
@@ -61,6 +77,24 @@ static size_t bytes_touched(const uint8_t *replies)
     for (size_t i = 0; i < ROOM; i++)
         touched += replies[i] != UNTOUCHED;
     return touched;
+}
+
+/* How many nodes are free after each entry, for as many as there is room. */
+static void print_free(const uint8_t *input, size_t size, size_t room)
+{
+    uint8_t replies[REPLY * MOST], free_nodes[MOST];
+    uint32_t numbers[KEMILUNDA_NUMBERS];
+
+    memset(free_nodes, UNTOUCHED, sizeof free_nodes);
+    printf("run %lu\n",
+           (unsigned long)kemilunda_run_free(input, size, replies, sizeof replies,
+                                             free_nodes, room, numbers));
+    printf("free:");
+    for (size_t i = 0; i < MOST; i++)
+        if (free_nodes[i] != UNTOUCHED)
+            printf(" %u", free_nodes[i]);
+    printf("\n");
+    print_numbers(numbers);
 }
 
 int main(void)
@@ -109,5 +143,14 @@ int main(void)
     for (size_t i = 5; i < 8; i++)
         print_reply(replies + REPLY * i);
     print_numbers(numbers);
+
+    printf("case 3, free nodes\n");
+    print_free(CASE_3, sizeof CASE_3, MOST);
+    printf("validate, free nodes\n"); /* the refused entry has a number too */
+    print_free(input, sizeof input, MOST);
+    printf("case 10, free nodes\n");
+    print_free(CASE_10, sizeof CASE_10, MOST);
+    printf("room for 18\n"); /* fewer numbers, the same run */
+    print_free(CASE_10, sizeof CASE_10, 18);
     return 0;
 }

@@ -78,15 +78,12 @@ struct walk {
 };
 
 static void cover_load_step(struct coverage *c, struct walk *w,
-                            const struct machine *before,
                             const struct machine *after, struct answer a)
 {
     const struct task *t = &after->task[a.task];
 
     if (a.met == L1)
         w->seen[a.task] = w->swaps[t->cell];
-    if (a.met == L2 && before->count[t->held] == 0)
-        c->raised_free++;
     if (a.met == L3 && t->phase == L5) {
         c->turned_back++;
         w->turned[a.task] = true;
@@ -128,6 +125,19 @@ static void cover_store_step(struct coverage *c, struct walk *w,
         if (walked > c->longest_walk)
             c->longest_walk = walked;
     }
+}
+
+/* By the nodes' counts: the kept total is one of the things to be compared. */
+static void cover_free(struct coverage *c, const struct machine *before,
+                       const struct machine *after, struct answer a)
+{
+    unsigned were, are;
+
+    if (bench_free_counted(before, &were) != 0 ||
+        bench_free_counted(after, &are) != 0)
+        return;
+    c->taken[a.met] += are < were;
+    c->freed[a.met] += are > were;
 }
 
 static void cover_validate_step(struct validates *v, struct walk *w,
@@ -231,8 +241,9 @@ static void cover_entry(struct coverage *c, struct walk *w, struct machine *m,
         return;
     }
     c->phase[a.met]++;
-    cover_load_step(c, w, &before, m, a);
+    cover_load_step(c, w, m, a);
     cover_store_step(c, w, &before, m, a);
+    cover_free(c, &before, m, a);
     cover_link(&c->validates, w, &before, m, a);
 
     unsigned long busy = 0;
@@ -361,27 +372,20 @@ static void print_depth(FILE *out, const struct coverage *c)
     fprintf(out, "  checks turned back %lu, inputs with 2 tasks or more turned back %lu\n",
             c->turned_back, c->turned_two);
     fprintf(out, "  checks passed on a node that had left and come back %lu\n", c->came_back);
-    fprintf(out, "  L2 on a free node %lu, stores lost to an equal value %lu\n",
-            c->raised_free, c->lost_equal);
+    fprintf(out, "  stores lost to an equal value %lu\n", c->lost_equal);
     fprintf(out, "  most tasks busy at once %lu\n", c->most_busy);
 }
 
-/* Something that has to be met at least once. */
-struct row {
-    const char *what;
-    unsigned long met;
-};
-
-static unsigned print_rows(FILE *out, const char *call, const struct row *rows,
-                           size_t count)
+unsigned coverage_rows(FILE *out, const char *thing, const struct row *rows,
+                       size_t count)
 {
     unsigned never = 0;
 
-    fprintf(out, "%ss:\n", call);
+    fprintf(out, "%ss:\n", thing);
     for (size_t i = 0; i < count; i++) {
         fprintf(out, "  %-42s %9lu\n", rows[i].what, rows[i].met);
         if (rows[i].met == 0) {
-            fprintf(out, "never met: %s, %s\n", call, rows[i].what);
+            fprintf(out, "never met: %s, %s\n", thing, rows[i].what);
             never++;
         }
     }
@@ -396,7 +400,22 @@ static unsigned print_stores(FILE *out, const struct coverage *c)
         { "at S5 with 1 on m, more were left at S3", c->s5_at_1 },
     };
 
-    return print_rows(out, "store", rows, COUNT_OF(rows));
+    return coverage_rows(out, "store", rows, COUNT_OF(rows));
+}
+
+/* S3 can't leave one more: its own task still holds m. */
+static unsigned print_free(FILE *out, const struct coverage *c)
+{
+    const struct row rows[] = {
+        { "one less at L2, a load raised a free one", c->taken[L2] },
+        { "one less at S6", c->taken[S6] },
+        { "one more at L5", c->freed[L5] },
+        { "one more at S5", c->freed[S5] },
+        { "one more at S7", c->freed[S7] },
+        { "one more at R1", c->freed[R1] },
+    };
+
+    return coverage_rows(out, "free node", rows, COUNT_OF(rows));
 }
 
 static unsigned print_validates(FILE *out, const struct validates *v)
@@ -424,7 +443,7 @@ static unsigned print_validates(FILE *out, const struct validates *v)
         { "its value not zero, 15", v->for_value },
     };
 
-    return print_rows(out, "validate", rows, COUNT_OF(rows));
+    return coverage_rows(out, "validate", rows, COUNT_OF(rows));
 }
 
 static unsigned print_lengths(FILE *out, const struct coverage *c)
@@ -476,6 +495,7 @@ unsigned coverage_print(FILE *out, const struct coverage *c)
                           c->setup_order);
     never += print_lengths(out, c);
     never += print_stores(out, c);
+    never += print_free(out, c);
     never += print_validates(out, &c->validates);
     print_depth(out, c);
     return never;

@@ -28,6 +28,9 @@ struct validates {
 struct coverage {
     /* accepted entries by the phase they found their task in */
     unsigned long phase[PHASES];
+    /* those that leave one free node less, and one more, in the same way */
+    unsigned long taken[PHASES];
+    unsigned long freed[PHASES];
     /* replies and refusals; a refused setup counts too */
     unsigned long number[NUMBERS];
     /* refusal given, and another fault that the same bytes had */
@@ -54,7 +57,6 @@ struct coverage {
     unsigned long turned_back;
     unsigned long turned_two;       /* inputs with two tasks or more turned back */
     unsigned long came_back;        /* checks passed after the node left and returned */
-    unsigned long raised_free;      /* L2 on a node with count 0 */
     unsigned long lost_equal;       /* stores lost to an equal value */
     unsigned long most_busy;        /* tasks in a call or linked at once */
     struct validates validates;
@@ -68,5 +70,15 @@ void cover(struct coverage *c, const uint8_t *input, size_t length);
  * that was never met.  Returns the number of such lines.
  */
 unsigned coverage_print(FILE *out, const struct coverage *c);
+
+/* Something that has to be met at least once. */
+struct row {
+    const char *what;
+    unsigned long met;
+};
+
+/* A table of such things under the name of what they are about, in the same way. */
+unsigned coverage_rows(FILE *out, const char *thing, const struct row *rows,
+                       size_t count);
 
 #endif

@@ -618,12 +618,13 @@ static void put_cut(struct maker *k)
 static void swap_entries(struct maker *k, size_t setup)
 {
     struct tape *t = &k->tape;
-    size_t entries = (t->length - setup) / ENTRY_BYTES;
     uint8_t kept[ENTRY_BYTES];
 
-    if (entries < 2)
+    /* another damage may have taken a byte of the setup itself */
+    if (t->length < setup + 2 * ENTRY_BYTES)
         return;
 
+    size_t entries = (t->length - setup) / ENTRY_BYTES;
     uint8_t *first = t->out + setup +
                      ENTRY_BYTES * below(&k->dice, (uint32_t)entries - 1);
 

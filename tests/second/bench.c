@@ -47,6 +47,7 @@ static void make_fresh(struct machine *m, const uint8_t *values)
         m->task[p].own = (uint8_t)own;
         m->count[own] = 1;
     }
+    m->free = (uint8_t)(m->nodes - m->cells - m->tasks);
 }
 
 unsigned bench_setup(struct machine *m, const uint8_t *input, size_t length,
@@ -85,10 +86,16 @@ static bool task_in_range(const struct machine *m, const struct task *t)
            t->own < m->nodes && t->cursor < m->nodes;
 }
 
+/* All that an answer about free nodes has to rest on. */
+static bool total_in_range(const struct machine *m)
+{
+    return sizes_allowed(m->cells, m->tasks, m->nodes) && m->free <= m->nodes;
+}
+
 /* Looks only at places below N, P and K; the rest is never used. */
 static bool in_range(const struct machine *m)
 {
-    if (!sizes_allowed(m->cells, m->tasks, m->nodes))
+    if (!total_in_range(m))
         return false;
     for (unsigned i = 0; i < m->cells; i++)
         if (m->node_of[i] >= m->nodes)
@@ -104,23 +111,39 @@ static bool in_range(const struct machine *m)
 
 /* One step --------------------------------------------------------------- */
 
-/* Raising P+1 is damage: no sound machine has more than P+1 on a node. */
-static bool raise_count(const struct machine *m, uint8_t *count)
+/*
+ * The one place where a step changes a count, so that no step can forget the
+ * total.  One that would go below 0 or above K is damage: nothing is changed.
+ */
+static bool set_count(struct machine *m, uint8_t node, unsigned count)
 {
-    if (*count > m->tasks)
+    int total = m->free - (m->count[node] == 0) + (count == 0);
+
+    if (total < 0 || total > m->nodes)
         return false;
-    ++*count;
+    m->free = (uint8_t)total;
+    m->count[node] = (uint8_t)count;
     return true;
 }
 
-enum { NOT_LOWERED = -1 }; /* there was nothing to lower, which is damage */
+/* Raising P+1 is damage: no sound machine has more than P+1 on a node. */
+static bool raise_count(struct machine *m, uint8_t node)
+{
+    unsigned count = m->count[node];
+
+    return count <= m->tasks && set_count(m, node, count + 1);
+}
+
+enum { NOT_LOWERED = -1 }; /* it was 0, or the total can't follow: damage */
 
 /* Gives the number left behind: a later look might find another one. */
-static int lower_count(uint8_t *count)
+static int lower_count(struct machine *m, uint8_t node)
 {
-    if (*count == 0)
+    unsigned count = m->count[node];
+
+    if (count == 0 || !set_count(m, node, count - 1))
         return NOT_LOWERED;
-    return --*count;
+    return (int)count - 1;
 }
 
 /*
@@ -130,7 +153,6 @@ static int lower_count(uint8_t *count)
 static unsigned step(struct machine *m, struct task *t, uint32_t *value)
 {
     uint8_t *pointer = &m->node_of[t->cell];
-    uint8_t *count = &m->count[t->held];
     int left;
 
     switch (t->phase) {
@@ -140,7 +162,7 @@ static unsigned step(struct machine *m, struct task *t, uint32_t *value)
         return MOVED;
 
     case L2: /* announce first, copy later: the order the printed figure lost */
-        if (!raise_count(m, count))
+        if (!raise_count(m, t->held))
             return DAMAGED;
         t->phase = L3;
         return MOVED;
@@ -155,7 +177,7 @@ static unsigned step(struct machine *m, struct task *t, uint32_t *value)
         return LOADED;
 
     case L5: /* too late: take the announcement back and start again */
-        if (lower_count(count) == NOT_LOWERED)
+        if (lower_count(m, t->held) == NOT_LOWERED)
             return DAMAGED;
         t->phase = L1;
         return MOVED;
@@ -175,7 +197,7 @@ static unsigned step(struct machine *m, struct task *t, uint32_t *value)
         return MOVED;
 
     case S3: /* the cell's share of the old node's count */
-        left = lower_count(count);
+        left = lower_count(m, t->held);
         if (left == NOT_LOWERED)
             return DAMAGED;
         if (left == 1) { /* not 0: this task still holds the old node itself */
@@ -187,7 +209,7 @@ static unsigned step(struct machine *m, struct task *t, uint32_t *value)
         return MOVED;
 
     case S5: /* others held the old node at S3: leave it and look for a free one */
-        if (lower_count(count) == NOT_LOWERED)
+        if (lower_count(m, t->held) == NOT_LOWERED)
             return DAMAGED;
         t->cursor = (uint8_t)((t->held + 1) % m->nodes);
         t->phase = S6;
@@ -195,7 +217,8 @@ static unsigned step(struct machine *m, struct task *t, uint32_t *value)
 
     case S6: /* test and take in the same step, or two tasks get one node */
         if (m->count[t->cursor] == 0) {
-            m->count[t->cursor] = 1;
+            if (!set_count(m, t->cursor, 1))
+                return DAMAGED;
             t->own = t->cursor;
             t->phase = IDLE;
             return TOOK;
@@ -204,13 +227,13 @@ static unsigned step(struct machine *m, struct task *t, uint32_t *value)
         return MOVED;
 
     case S7: /* lost: only the held node is given back, never the own one */
-        if (lower_count(count) == NOT_LOWERED)
+        if (lower_count(m, t->held) == NOT_LOWERED)
             return DAMAGED;
         t->phase = IDLE;
         return LOST;
 
     case R1:
-        if (lower_count(count) == NOT_LOWERED)
+        if (lower_count(m, t->held) == NOT_LOWERED)
             return DAMAGED;
         t->phase = IDLE;
         return RELEASED;
@@ -349,8 +372,18 @@ static void count_entry(struct report *r, struct answer a, uint8_t now)
         r->swaps++;
 }
 
-struct report bench_run(struct machine *m, const uint8_t *schedule,
-                        size_t length, uint8_t *replies, size_t room)
+/* An answer is at most K, so it has room in a byte. */
+static void show_free(const struct display *d, const struct machine *m, size_t i)
+{
+    unsigned free_nodes;
+
+    if (i < d->room && d->ask(m, &free_nodes) == 0)
+        d->free_nodes[i] = (uint8_t)free_nodes;
+}
+
+struct report bench_run_shown(struct machine *m, const uint8_t *schedule,
+                              size_t length, uint8_t *replies, size_t room,
+                              const struct display *display)
 {
     struct report r = { 0 };
     /* a cut last entry needs room for its refusal too */
@@ -370,6 +403,7 @@ struct report bench_run(struct machine *m, const uint8_t *schedule,
         struct answer a = bench_apply(m, schedule + at, length - at);
 
         write_reply(replies + i * REPLY_BYTES, a);
+        show_free(display, m, i);
         if (is_refusal(a.number)) {
             r.refusal = a.number;
             break;
@@ -377,6 +411,37 @@ struct report bench_run(struct machine *m, const uint8_t *schedule,
         count_entry(&r, a, m->task[a.task].phase);
     }
     return r;
+}
+
+struct report bench_run(struct machine *m, const uint8_t *schedule,
+                        size_t length, uint8_t *replies, size_t room)
+{
+    static const struct display none; /* no room: it never asks */
+
+    return bench_run_shown(m, schedule, length, replies, room, &none);
+}
+
+/* The free nodes --------------------------------------------------------- */
+
+/* No walk, and no range test of the rest, which would be one as well. */
+unsigned bench_free(const struct machine *m, unsigned *free_nodes)
+{
+    if (!total_in_range(m))
+        return DAMAGED;
+    *free_nodes = m->free;
+    return 0;
+}
+
+unsigned bench_free_counted(const struct machine *m, unsigned *free_nodes)
+{
+    unsigned found = 0;
+
+    if (!sizes_allowed(m->cells, m->tasks, m->nodes))
+        return DAMAGED;
+    for (unsigned i = 0; i < m->nodes; i++)
+        found += m->count[i] == 0;
+    *free_nodes = found;
+    return 0;
 }
 
 /* The holders question --------------------------------------------------- */

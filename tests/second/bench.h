@@ -1,6 +1,7 @@
 /*
- * The step bench of document 01, changed as items 1 (validate) and 2 (lowering
- * tells what it left) of document 02 ask, written a second time in plain C.
+ * The step bench of document 01, changed as items 1 (validate), 2 (lowering
+ * tells what it left) and 3 (how many nodes are free) of document 02 ask,
+ * written a second time in plain C.
  *
  * Written from the documents alone, so that a slip in the proved library and
  * a slip here are unlikely to be the same one.  No globals, no exit, nothing
@@ -85,6 +86,7 @@ struct machine {
     uint8_t cells;              /* N */
     uint8_t tasks;              /* P */
     uint8_t nodes;              /* K */
+    uint8_t free;               /* nodes below K with count 0, kept step by step */
     uint8_t node_of[MAX_CELLS]; /* the node each cell points at */
     uint32_t value[MAX_NODES];
     uint8_t count[MAX_NODES];
@@ -139,6 +141,32 @@ struct answer bench_apply(struct machine *machine, const uint8_t *entry,
  */
 struct report bench_run(struct machine *machine, const uint8_t *schedule,
                         size_t length, uint8_t *replies, size_t room);
+
+/*
+ * How many nodes are free.  Returns 0 and their number in *free_nodes, or 22
+ * and leaves *free_nodes alone.
+ */
+typedef unsigned free_question(const struct machine *machine,
+                               unsigned *free_nodes);
+
+/* Answered from the kept total, whatever the counts are. */
+unsigned bench_free(const struct machine *machine, unsigned *free_nodes);
+
+/* Answered by looking at every node, to compare the total with. */
+unsigned bench_free_counted(const struct machine *machine,
+                            unsigned *free_nodes);
+
+/* Who asks during a run, and where the answers go. */
+struct display {
+    free_question *ask;
+    uint8_t *free_nodes;
+    size_t room; /* later answers are lost */
+};
+
+/* The same as bench_run; the display asks after every entry that was tried. */
+struct report bench_run_shown(struct machine *machine, const uint8_t *schedule,
+                              size_t length, uint8_t *replies, size_t room,
+                              const struct display *display);
 
 /*
  * How many of the listed tasks hold the node.  Returns 0 and the count in

@@ -2,8 +2,8 @@
  * Checks of the second program's functions where the program's bytes can't
  * reach: damaged machines, short reply buffers, the holders question, the
  * machine after document 01's cases, after a validate and after each step that
- * lowers a count, and how long a store alone can take.  Prints what fails; exit
- * status 1 then.
+ * changes a count, how long a store alone can take, and how many nodes are free.
+ * Prints what fails; exit status 1 then.
  */
 #include "bench.h"
 #include "chance.h"
@@ -94,6 +94,7 @@ static bool same(const struct machine *a, const struct machine *b)
         if (!same_task(&a->task[p], &b->task[p]))
             return false;
     return a->cells == b->cells && a->tasks == b->tasks && a->nodes == b->nodes &&
+           a->free == b->free &&
            memcmp(a->node_of, b->node_of, sizeof a->node_of) == 0 &&
            memcmp(a->value, b->value, sizeof a->value) == 0 &&
            memcmp(a->count, b->count, sizeof a->count) == 0;
@@ -219,18 +220,45 @@ static void check_release_in_store(void)
     CHECK(m.task[1].own == 3 && counts_are(&m, 0, 1, 1, 1, 0));
 }
 
-/* Task 1 makes a step that finds the count on its m; no other field changes. */
-static void check_lowered(uint8_t phase, uint8_t count, uint8_t number, uint8_t next)
+static void check_refused(struct machine m, uint8_t number, uint8_t task)
 {
-    struct machine m = small(), due;
-    struct answer a;
+    struct machine before = m;
+    struct answer a = apply(&m, 1, GO, 0);
+
+    CHECK(a.number == number && a.task == task && a.value == 0);
+    CHECK(same(&m, &before));
+}
+
+/*
+ * Task 1's next step is the phase's and looks at node 3, whose count is given,
+ * as the kept total is: they may be such as no bytes lead to.
+ */
+static struct machine facing(uint8_t phase, uint8_t count, uint8_t total)
+{
+    struct machine m = small();
 
     m.task[1].phase = phase;
-    m.task[1].held = 3;
+    m.task[1].held = m.task[1].cursor = 3;
     m.count[3] = count;
-    due = m;
+    m.free = total;
+    return m;
+}
+
+/* No field changes but those that the table names, and the total with 0. */
+static void check_lowered(uint8_t phase, uint8_t count, uint8_t total,
+                          uint8_t number, uint8_t next)
+{
+    struct machine m = facing(phase, count, total), due = m;
+    struct answer a;
+
+    if (count == 1 && total == m.nodes) { /* more than all would be free */
+        check_refused(m, DAMAGED, 1);
+        return;
+    }
     due.task[1].phase = next;
-    due.count[3] = (uint8_t)(count - 1);
+    due.count[3]--;
+    if (count == 1)
+        due.free++;
     if (number == TOOK)
         due.task[1].own = 3;
     if (phase == S5)
@@ -240,17 +268,206 @@ static void check_lowered(uint8_t phase, uint8_t count, uint8_t number, uint8_t 
     CHECK(same(&m, &due));
 }
 
-static void check_lowering(void)
+static void check_lowering(uint8_t total)
 {
     for (uint8_t count = 1; count <= 3; count++) {
-        check_lowered(L5, count, MOVED, L1);
-        check_lowered(S5, count, MOVED, S6);
-        check_lowered(S7, count, LOST, IDLE);
-        check_lowered(R1, count, RELEASED, IDLE);
+        check_lowered(L5, count, total, MOVED, L1);
+        check_lowered(S5, count, total, MOVED, S6);
+        check_lowered(S7, count, total, LOST, IDLE);
+        check_lowered(R1, count, total, RELEASED, IDLE);
     }
-    check_lowered(S3, 1, MOVED, S5); /* no sound machine; the rule is the same */
-    check_lowered(S3, 2, TOOK, IDLE);
-    check_lowered(S3, 3, MOVED, S5);
+    /* no sound machine leaves 0 here; the rule is the same */
+    check_lowered(S3, 1, total, MOVED, S5);
+    check_lowered(S3, 2, total, TOOK, IDLE);
+    check_lowered(S3, 3, total, MOVED, S5);
+}
+
+static void check_raised(uint8_t count, uint8_t total)
+{
+    struct machine m = facing(L2, count, total), due = m;
+
+    if (count == 0 && total == 0) { /* a free node where none is left */
+        check_refused(m, DAMAGED, 1);
+        return;
+    }
+    due.task[1].phase = L3;
+    due.count[3]++;
+    if (count == 0)
+        due.free--;
+    CHECK(apply(&m, 1, GO, 0).number == MOVED);
+    CHECK(same(&m, &due));
+}
+
+static void check_sought(uint8_t count, uint8_t total)
+{
+    struct machine m = facing(S6, count, total), due = m;
+
+    if (count == 0 && total == 0) {
+        check_refused(m, DAMAGED, 1);
+        return;
+    }
+    if (count == 0) {
+        due.task[1].phase = IDLE;
+        due.task[1].own = 3;
+        due.count[3] = 1;
+        due.free--;
+    } else {
+        due.task[1].cursor = 4;
+    }
+    CHECK(apply(&m, 1, GO, 0).number == (count == 0 ? TOOK : MOVED));
+    CHECK(same(&m, &due));
+}
+
+/* The total stays where no count changes. */
+static void check_stays(uint8_t phase, uint8_t kind, uint8_t total)
+{
+    for (uint8_t count = 0; count <= 3; count++) {
+        struct machine m = facing(phase, count, total);
+
+        CHECK(!is_refusal(apply(&m, 1, kind, 0).number) && m.free == total);
+        m = facing(phase, count, total);
+        m.node_of[0] = 3; /* L3 and S2 go the other way */
+        CHECK(!is_refusal(apply(&m, 1, kind, 0).number) && m.free == total);
+    }
+}
+
+static void check_changes(void)
+{
+    for (uint8_t total = 0; total <= 5; total++) { /* 5 is K */
+        check_lowering(total);
+        for (uint8_t count = 0; count <= 3; count++) {
+            if (count < 3)
+                check_raised(count, total);
+            check_sought(count, total);
+        }
+        check_stays(L1, GO, total);
+        check_stays(L3, GO, total);
+        check_stays(L4, GO, total);
+        check_stays(S1, GO, total);
+        check_stays(S2, GO, total);
+        check_stays(V1, GO, total);
+        check_stays(IDLE, LOAD, total);
+        check_stays(LINKED, STORE, total);
+        check_stays(LINKED, RELEASE, total);
+        check_stays(LINKED, VALIDATE, total);
+    }
+}
+
+/* The free nodes: kept, answered and counted. */
+static bool free_are(const struct machine *m, unsigned due)
+{
+    unsigned answered = 99, counted = 99;
+
+    return m->free == due && bench_free(m, &answered) == 0 && answered == due &&
+           bench_free_counted(m, &counted) == 0 && counted == due;
+}
+
+/* One entry for each digit, which says how many it leaves free: the first is
+ * of the kind, the rest are go. */
+static bool leave_free(struct machine *m, uint8_t task, uint8_t kind,
+                       uint8_t value, const char *digits)
+{
+    for (; *digits != '\0'; digits++, kind = GO, value = 0)
+        if (is_refusal(apply(m, task, kind, value).number) ||
+            !free_are(m, (unsigned)(*digits - '0')))
+            return false;
+    return true;
+}
+
+/* Case 10 again: one store ends by taking node 3, the other by freeing node 0. */
+static void check_free_in_case_10(void)
+{
+    struct machine m = small();
+
+    CHECK(free_are(&m, 2));
+    CHECK(leave_free(&m, 0, LOAD, 0, "22222"));
+    CHECK(leave_free(&m, 1, LOAD, 0, "22222"));
+    CHECK(leave_free(&m, 1, STORE, 9, "22222221"));
+    CHECK(leave_free(&m, 0, STORE, 8, "1112"));
+    CHECK(counts_are(&m, 0, 1, 1, 1, 0));
+}
+
+/* S5 leaves 0 where the other holder has released since S3. */
+static void check_free_at_s5(void)
+{
+    struct machine m = small();
+
+    CHECK(leave_free(&m, 0, LOAD, 0, "22222"));
+    CHECK(leave_free(&m, 1, LOAD, 0, "22222"));
+    CHECK(leave_free(&m, 1, STORE, 9, "2222"));
+    CHECK(leave_free(&m, 0, RELEASE, 0, "22"));
+    CHECK(leave_free(&m, 1, GO, 0, "3332"));
+    CHECK(m.task[1].own == 3 && counts_are(&m, 0, 1, 1, 1, 0));
+}
+
+/*
+ * A load raises a free node.  Task 0 reads node 0 and stands; task 1 stores
+ * while task 2 is linked too, so that it can't keep node 0 and takes node 4;
+ * task 2 gives node 0 up, and nobody has it.  It takes three tasks.
+ */
+static void check_free_raised(void)
+{
+    struct machine m = fresh(1, 3, 7);
+
+    CHECK(free_are(&m, 3));
+    CHECK(leave_free(&m, 0, LOAD, 0, "33"));
+    CHECK(leave_free(&m, 1, LOAD, 0, "33333"));
+    CHECK(leave_free(&m, 2, LOAD, 0, "33333"));
+    CHECK(leave_free(&m, 1, STORE, 9, "333333332"));
+    CHECK(m.task[1].own == 4 && counts_are(&m, 1, 1, 1, 1, 1));
+    CHECK(leave_free(&m, 2, RELEASE, 0, "23"));
+    CHECK(leave_free(&m, 0, GO, 0, "22")); /* L2 on node 0, and turned back */
+    CHECK(m.task[0].phase == L5 && counts_are(&m, 1, 1, 1, 1, 1));
+    CHECK(leave_free(&m, 0, GO, 0, "33333")); /* L5; then node 2, never free */
+    CHECK(m.task[0].phase == LINKED && m.task[0].held == 2);
+    CHECK(counts_are(&m, 0, 1, 2, 1, 1));
+}
+
+static void check_fresh_totals(void)
+{
+    struct machine least = fresh(1, 1, 3), most = fresh(1, 1, 128);
+    struct machine crowded = fresh(64, 16, 96), full = fresh(64, 16, 128);
+
+    CHECK(free_are(&least, 1) && free_are(&most, 126));
+    CHECK(free_are(&crowded, 16) && free_are(&full, 48));
+}
+
+/* Answers with the total, whatever else is damaged; 22 leaves the place alone. */
+static void check_free_question(void)
+{
+    struct machine m = small();
+
+    memset(m.node_of, 255, sizeof m.node_of);
+    memset(m.count, 255, sizeof m.count);
+    memset(m.task, 255, sizeof m.task);
+    for (unsigned total = 0; total <= 255; total++) {
+        unsigned got = 999;
+        bool above = total > 5;
+
+        m.free = (uint8_t)total;
+        CHECK(bench_free(&m, &got) == (above ? DAMAGED : 0));
+        CHECK(got == (above ? 999 : total));
+    }
+}
+
+/* The sizes that a setup takes, and no others: all there are. */
+static bool answered_by_sizes(void)
+{
+    struct machine m = small();
+
+    m.free = 0;
+    for (unsigned i = 0; i < 1u << 24; i++) {
+        unsigned n = i >> 16, p = i >> 8 & 255, k = i & 255, got = 999;
+        bool taken = n - 1 < 64 && p - 1 < 16 && n + 2 * p <= k && k <= 128;
+
+        m.cells = (uint8_t)n;
+        m.tasks = (uint8_t)p;
+        m.nodes = (uint8_t)k;
+        if (bench_free(&m, &got) != (taken ? 0 : DAMAGED) ||
+            got != (taken ? 0 : 999))
+            return false;
+    }
+    return true;
 }
 
 /* An entry that the task's phase allows. */
@@ -266,6 +483,31 @@ static void move(struct machine *m, uint8_t task, uint32_t *state)
         apply(m, task, RELEASE, 0);
     else
         apply_on(m, task, STORE, t->cell, 0);
+}
+
+/* After every entry of a random schedule the total is the full count. */
+static bool kept_free(uint8_t cells, uint8_t tasks, uint8_t nodes,
+                      unsigned entries)
+{
+    struct machine m = fresh(cells, tasks, nodes);
+    uint32_t state = 1;
+    unsigned counted;
+
+    while (entries-- > 0) {
+        move(&m, (uint8_t)(chance(&state) % tasks), &state);
+        if (bench_free_counted(&m, &counted) != 0 || !free_are(&m, counted))
+            return false;
+    }
+    return true;
+}
+
+static void check_kept_free(void)
+{
+    for (uint8_t tasks = 1; tasks <= MAX_TASKS; tasks++) {
+        CHECK(kept_free(1, tasks, (uint8_t)(1 + 2 * tasks), 20000));
+        CHECK(kept_free(2, tasks, MAX_NODES, 20000));
+        CHECK(kept_free(MAX_CELLS, tasks, (uint8_t)(MAX_CELLS + 2 * tasks), 20000));
+    }
 }
 
 /* The steps that the task's store still needs if no other task moves. */
@@ -362,15 +604,6 @@ static void check_early_validates(void)
     }
 }
 
-static void check_refused(struct machine m, uint8_t number, uint8_t task)
-{
-    struct machine before = m;
-    struct answer a = apply(&m, 1, GO, 0);
-
-    CHECK(a.number == number && a.task == task && a.value == 0);
-    CHECK(same(&m, &before));
-}
-
 /* Each byte as the phase of one task; where it is none, of the other too. */
 static void check_phases(void)
 {
@@ -405,11 +638,14 @@ static void check_damage_by_range(void)
     m = small(); m.task[0].held = 5; check_refused(m, DAMAGED, 0);
     m = small(); m.task[0].own = 5; check_refused(m, DAMAGED, 0);
     m = small(); m.task[0].cursor = 5; check_refused(m, DAMAGED, 0);
+    m = small(); m.free = 6; check_refused(m, DAMAGED, 0);
+    m = small(); m.free = 255; check_refused(m, DAMAGED, 0);
 
     /* the largest that are in range, and places nobody looks at */
     m = small();
     m.node_of[0] = 4;
     m.count[4] = 3;
+    m.free = 5;
     m.task[0].phase = 15;
     m.task[1].held = m.task[1].own = m.task[1].cursor = 4;
     m.node_of[1] = m.count[5] = m.task[2].phase = 255;
@@ -483,6 +719,48 @@ static void check_runs(void)
     CHECK(r.refusal == 0 && r.accepted == 0);
 }
 
+/* S5 gives node 3 back, S6 takes node 4, a load begins, and another can't. */
+static void check_display(free_question *ask, size_t room)
+{
+    static const uint8_t schedule[] = {
+        0x45, 0x4E, 1, GO, 0, 0, 0, 0, 0, 0,
+        0x45, 0x4E, 1, GO, 0, 0, 0, 0, 0, 0,
+        0x45, 0x4E, 1, LOAD, 0, 0, 0, 0, 0, 0,
+        0x45, 0x4E, 1, LOAD, 0, 0, 0, 0, 0, 0,
+    };
+    static const uint8_t due[] = { 2, 1, 1, 1 };
+    uint8_t shown[6] = { 99, 99, 99, 99, 99, 99 }, replies[32];
+    struct display d = { ask, shown, room };
+    struct machine m = facing(S5, 1, 1), damaged = facing(S5, 1, 6);
+    struct report r;
+
+    /* no entry is tried: the display has nothing to show */
+    r = bench_run_shown(&damaged, schedule, sizeof schedule, replies, 32, &d);
+    CHECK(r.refusal == DAMAGED && r.accepted == 0);
+    r = bench_run_shown(&m, schedule, sizeof schedule, replies, 31, &d);
+    CHECK(r.refusal == NO_ROOM && r.accepted == 0);
+    for (size_t i = 0; i < sizeof shown; i++)
+        CHECK(shown[i] == 99);
+
+    r = bench_run_shown(&m, schedule, sizeof schedule, replies, 32, &d);
+    CHECK(r.refusal == BAD_CALL && r.accepted == 3);
+    for (size_t i = 0; i < sizeof shown; i++)
+        CHECK(shown[i] == (i < room && i < sizeof due ? due[i] : 99));
+
+    /* refused at the first entry, which is tried all the same */
+    r = bench_run_shown(&m, schedule + 30, 10, replies, 32, &d);
+    CHECK(r.refusal == BAD_CALL && r.accepted == 0);
+    CHECK(shown[0] == (room > 0 ? 1 : 99));
+}
+
+static void check_displays(void)
+{
+    for (size_t room = 0; room <= 6; room++) {
+        check_display(bench_free, room);
+        check_display(bench_free_counted, room);
+    }
+}
+
 /* The start test of a run sees the phase too, before any entry is tried. */
 static void check_run_in_phase(uint8_t phase)
 {
@@ -536,7 +814,14 @@ int main(void)
     check_case_11();
     check_case_12();
     check_release_in_store();
-    check_lowering();
+    check_changes();
+    check_fresh_totals();
+    check_free_in_case_10();
+    check_free_at_s5();
+    check_free_raised();
+    check_free_question();
+    CHECK(answered_by_sizes());
+    check_kept_free();
     check_stores_alone();
     check_validates();
     check_early_validates();
@@ -544,6 +829,7 @@ int main(void)
     check_damage_by_range();
     check_damage_by_step();
     check_runs();
+    check_displays();
     check_run_in_phase(10);
     check_run_in_phase(16);
     check_holders();
