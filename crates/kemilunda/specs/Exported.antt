@@ -6,7 +6,7 @@ use Rattle.cells.specs.declared.Machine.{Machine}
 use Rattle.cells.specs.declared.SetupAnswer.{SetupAnswer}
 use Rattle.cells.specs.declared.SetupAnswer.the-variants.{Ready, Refused}
 use Rattle.cells.specs.Setup.{setupOf, setupNumber, setupBytes}
-use Rattle.runs.specs.Run.{sixOf, ranOf, bufferOf}
+use Rattle.runs.specs.Run.{sixOf, ranOf, bufferOf, notedOf}
 
 -- the number of a setup's refusal, 0 for none; the bytes that it used
 abbrev pub setupRefusal : List ℕ → ℕ
@@ -30,3 +30,11 @@ numbersBy (Refused r) m input room old = old
 
 abbrev pub numbersAfter : List ℕ → ℕ → List ℕ → List ℕ
 numbersAfter input room old = numbersBy (setupOf input .answer) (setupOf input .machine) input room old
+
+-- the buffer for the numbers of free nodes after that run; as it was, where the setup is refused
+abbrev pub freeNodesBy : SetupAnswer → Machine → List ℕ → ℕ → List ℕ → List ℕ
+freeNodesBy (Ready used) m input room free = notedOf m (drop used input) room free
+freeNodesBy (Refused r) m input room free = free
+
+abbrev pub freeNodesAfter : List ℕ → ℕ → List ℕ → List ℕ
+freeNodesAfter input room free = freeNodesBy (setupOf input .answer) (setupOf input .machine) input room free
