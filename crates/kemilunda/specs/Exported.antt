@@ -23,14 +23,6 @@ repliesBy (Refused r) m input out = out
 abbrev pub repliesAfter : List ℕ → List ℕ → List ℕ
 repliesAfter input out = repliesBy (setupOf input .answer) (setupOf input .machine) input out
 
--- the six numbers of that run; as they were, where the setup is refused
-abbrev pub numbersBy : SetupAnswer → Machine → List ℕ → ℕ → List ℕ → List ℕ
-numbersBy (Ready used) m input room old = sixOf (ranOf m (drop used input) room .report)
-numbersBy (Refused r) m input room old = old
-
-abbrev pub numbersAfter : List ℕ → ℕ → List ℕ → List ℕ
-numbersAfter input room old = numbersBy (setupOf input .answer) (setupOf input .machine) input room old
-
 -- the buffer for the numbers of free nodes after that run; as it was, where the setup is refused
 abbrev pub freeNodesBy : SetupAnswer → Machine → List ℕ → ℕ → List ℕ → List ℕ
 freeNodesBy (Ready used) m input room free = notedOf m (drop used input) room free
@@ -38,3 +30,11 @@ freeNodesBy (Refused r) m input room free = free
 
 abbrev pub freeNodesAfter : List ℕ → ℕ → List ℕ → List ℕ
 freeNodesAfter input room free = freeNodesBy (setupOf input .answer) (setupOf input .machine) input room free
+
+-- the six numbers of that run; as they were, where the setup is refused
+abbrev pub numbersBy : SetupAnswer → Machine → List ℕ → ℕ → List ℕ → List ℕ
+numbersBy (Ready used) m input room old = sixOf (ranOf m (drop used input) room .report)
+numbersBy (Refused r) m input room old = old
+
+abbrev pub numbersAfter : List ℕ → ℕ → List ℕ → List ℕ
+numbersAfter input room old = numbersBy (setupOf input .answer) (setupOf input .machine) input room old

@@ -188,9 +188,9 @@ fn run_entries(m: Machine, s: &[u8], out: &mut [u8], free: &mut [u8]) -> Ran
                 cells::write_values(&mut machine.values, w);
                 cells::write_counts(&mut machine.counts, w);
                 machine.free = cells::write_free(machine.free, w);
-                note(free, i, machine.n, machine.p, machine.k, machine.free);
             }
         }
+        note(free, i, machine.n, machine.p, machine.k, machine.free);
         i += 1;
     }
     Ran {
@@ -209,7 +209,8 @@ fn untried(m: Machine, refusal: Refusal) -> Ran
     }
 }
 
-// A run: 22 by ranges, 23 and 21 before any entry is tried, in that order.
+// A run: 22 by ranges, 23 and 21 before any entry is tried, in that order. `free` gets the number of free nodes after each entry that is tried, as far as
+// it goes.
 pub fn run_free(m: Machine, s: &[u8], out: &mut [u8], free: &mut [u8]) -> Ran
     ensures { λ r. ⌜ (r ≡ ranOf m (now (s .entry)) (length (now (out .entry)))) × (now (out .exit) ≡ bufferOf m (now (s .entry)) (now (out .entry))) × (now (free .exit) ≡ notedOf m (now (s .entry)) (length (now (out .entry))) (now (free .entry))) ⌝ }
 {
