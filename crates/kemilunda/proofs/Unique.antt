@@ -7,6 +7,8 @@ use Rattle.kemilunda.proofs.kemilunda_setup_bytes.Kinds as bytes·k
 use Rattle.kemilunda.proofs.kemilunda_setup_bytes.Reads as bytes
 use Rattle.kemilunda.proofs.kemilunda_run.Kinds as run·k
 use Rattle.kemilunda.proofs.kemilunda_run.Reads as run
+use Rattle.kemilunda.proofs.kemilunda_run_free.Kinds as run-free·k
+use Rattle.kemilunda.proofs.kemilunda_run_free.Reads as run-free
 
 pub setup-one : One setup·k.ps setup·k.r setup.Pre setup.Post
 setup-one κs a z z′ ws ws′ p q q′ = (q ∙ sym q′, refl)
@@ -17,3 +19,7 @@ setup-bytes-one κs a z z′ ws ws′ p q q′ = (q ∙ sym q′, refl)
 -- the result, every byte of the replies, and the six numbers
 pub run-one : One run·k.ps run·k.r run.Pre run.Post
 run-one κs a z z′ ws ws′ p q q′ = (q .0 ∙ sym (q′ .0), λ i. (ws .0, ((q .1 ∙ sym (q′ .1)) i, ((q .2 ∙ sym (q′ .2)) i, ws .1 .1 .1))))
+
+-- and every number of free nodes
+pub run-free-one : One run-free·k.ps run-free·k.r run-free.Pre run-free.Post
+run-free-one κs a z z′ ws ws′ p q q′ = (q .0 ∙ sym (q′ .0), λ i. (ws .0, ((q .1 ∙ sym (q′ .1)) i, ((q .2 ∙ sym (q′ .2)) i, ((q .3 ∙ sym (q′ .3)) i, ws .1 .1 .1 .1)))))

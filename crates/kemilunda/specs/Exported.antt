@@ -6,7 +6,7 @@ use Rattle.cells.specs.declared.Machine.{Machine}
 use Rattle.cells.specs.declared.SetupAnswer.{SetupAnswer}
 use Rattle.cells.specs.declared.SetupAnswer.the-variants.{Ready, Refused}
 use Rattle.cells.specs.Setup.{setupOf, setupNumber, setupBytes}
-use Rattle.runs.specs.Run.{sixOf, ranOf, bufferOf}
+use Rattle.runs.specs.Run.{sixOf, ranOf, bufferOf, notedOf}
 
 -- the number of a setup's refusal, 0 for none; the bytes that it used
 abbrev pub setupRefusal : List ℕ → ℕ
@@ -22,6 +22,14 @@ repliesBy (Refused r) m input out = out
 
 abbrev pub repliesAfter : List ℕ → List ℕ → List ℕ
 repliesAfter input out = repliesBy (setupOf input .answer) (setupOf input .machine) input out
+
+-- the buffer for the numbers of free nodes after that run; as it was, where the setup is refused
+abbrev pub freeNodesBy : SetupAnswer → Machine → List ℕ → ℕ → List ℕ → List ℕ
+freeNodesBy (Ready used) m input room free = notedOf m (drop used input) room free
+freeNodesBy (Refused r) m input room free = free
+
+abbrev pub freeNodesAfter : List ℕ → ℕ → List ℕ → List ℕ
+freeNodesAfter input room free = freeNodesBy (setupOf input .answer) (setupOf input .machine) input room free
 
 -- the six numbers of that run; as they were, where the setup is refused
 abbrev pub numbersBy : SetupAnswer → Machine → List ℕ → ℕ → List ℕ → List ℕ

@@ -5,7 +5,7 @@ use runs::Report;
 ghost use mathlib.Core.Path.{_≡_};
 ghost use lib.ListN.{length};
 ghost use Rattle.runs.specs.Run.{sixOf};
-ghost use Rattle.kemilunda.specs.Exported.{setupRefusal, setupUsed, numbersAfter, repliesAfter};
+ghost use Rattle.kemilunda.specs.Exported.{setupRefusal, setupUsed, numbersAfter, repliesAfter, freeNodesAfter};
 
 // 0 for a setup that is accepted, else its refusal.
 #[no_mangle]
@@ -40,10 +40,16 @@ fn six(r: Report) -> [u32; 6]
     ]
 }
 
-// A setup and its schedule. A refused setup writes nothing and gives its number; else the replies and the six numbers of the run are written, and it gives 0.
+// A setup and its schedule. A refused setup writes nothing and gives its number; else the replies, the number of free nodes after each entry that is tried
+// and the six numbers of the run are written, and it gives 0.
 #[no_mangle]
-pub extern "C" fn kemilunda_run(input: &[u8], replies: &mut [u8], numbers: &mut [u32; 6]) -> u32
-    ensures { λ r. ⌜ (r ≡ setupRefusal (now (input .entry))) × (now (replies .exit) ≡ repliesAfter (now (input .entry)) (now (replies .entry))) × (now (numbers .exit) ≡ numbersAfter (now (input .entry)) (length (now (replies .entry))) (now (numbers .entry))) ⌝ }
+pub extern "C" fn kemilunda_run_free(
+    input: &[u8],
+    replies: &mut [u8],
+    free: &mut [u8],
+    numbers: &mut [u32; 6],
+) -> u32
+    ensures { λ r. ⌜ (r ≡ setupRefusal (now (input .entry))) × (now (replies .exit) ≡ repliesAfter (now (input .entry)) (now (replies .entry))) × (now (free .exit) ≡ freeNodesAfter (now (input .entry)) (length (now (replies .entry))) (now (free .entry))) × (now (numbers .exit) ≡ numbersAfter (now (input .entry)) (length (now (replies .entry))) (now (numbers .entry))) ⌝ }
 {
     let s = Machine::setup(input);
     let a = s.answer;
@@ -51,10 +57,19 @@ pub extern "C" fn kemilunda_run(input: &[u8], replies: &mut [u8], numbers: &mut 
     match a {
         SetupAnswer::Refused(r) => answers::refusal_number(r) as u32,
         SetupAnswer::Ready(used) => {
-            let ran = runs::run(m, &input[used..], replies);
+            let ran = runs::run_free(m, &input[used..], replies, free);
             let report = ran.report;
             *numbers = six(report);
             0
         }
     }
+}
+
+// The same with no place for the numbers of free nodes.
+#[no_mangle]
+pub extern "C" fn kemilunda_run(input: &[u8], replies: &mut [u8], numbers: &mut [u32; 6]) -> u32
+    ensures { λ r. ⌜ (r ≡ setupRefusal (now (input .entry))) × (now (replies .exit) ≡ repliesAfter (now (input .entry)) (now (replies .entry))) × (now (numbers .exit) ≡ numbersAfter (now (input .entry)) (length (now (replies .entry))) (now (numbers .entry))) ⌝ }
+{
+    let mut none: [u8; 0] = [];
+    kemilunda_run_free(input, replies, &mut none, numbers)
 }

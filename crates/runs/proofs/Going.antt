@@ -1,11 +1,11 @@
 -- A run that has taken i entries takes one more, stops or ends. Assumes nothing.
 use Prim.Native.Nat.{ℕ, _+_, _-_, _*_, _≤_, _<_, min}
-use mathlib.Core.Path.{_≡_, refl, sym, ap, _∙_, subst}
+use mathlib.Core.Path.{_≡_, refl, sym, ap, _∙_}
 use mathlib.Core.Bool.{Bool, true, false}
 use mathlib.Core.List.{List, [], _∷_}
 use native.Mathlib.Decide.{decLe}
 use native.Mathlib.Omega.{arith}
-use lib.ListN.{length, take, drop, length-append, length-drop}
+use lib.ListN.{length, take, drop, set, length-append, length-drop, length-set}
 use lib.Seq.{length-take-le, take-all}
 use Rattle.answers.specs.Numbers.{refusalNumber, numberOf}
 use Rattle.wire.specs.Bytes.{overlaid}
@@ -14,18 +14,21 @@ use Rattle.cells.specs.Apply.{applyOf}
 use Rattle.cells.proofs.Decide.{decidedOn, Known, applied-refuses, applied-does}
 use Rattle.runs.specs.Types.{Machine, Report, Applied, Task, Refusal, Deed, Does, Refuses, Decision}
 use Rattle.runs.specs.Counts.{accepted, kindOf, taskOf}
-use Rattle.runs.specs.Run.{entriesIn, entriesOf, cut, counted, reportOf, refusedAt, ranFrom, replyBytes, repliesFrom}
+use Rattle.runs.specs.Run.{entriesIn, entriesOf, cut, counted, reportOf, refusedAt, ranFrom, replyBytes, repliesFrom, freeNow, notesFrom, notedBy}
 use Rattle.runs.specs.OneEntry.{Few, toldOf, decisionBytes}
 use Rattle.runs.proofs.Decision.{decision-bytes, decision-accepted, decision-counted}
 use Rattle.runs.proofs.Laws.{counted-by, few-more, cut-next, cut-none, ran-on, ran-stops, ran-ends, replies-on, replies-stop, replies-end, over-none, over-more}
+use Rattle.runs.proofs.Notes.{notedAt, noted-front, noted-on, noted-stops, noted-ends}
 
--- a run on the bytes s from machine m₀ and buffer o₀ has taken i entries: what is left of it gives the whole
-pub record Going (s o₀ : List ℕ) (m₀ : Machine) (o : List ℕ) (m : Machine) (r : Report) (i : ℕ) : Type 0 where
+-- a run on the bytes s from machine m₀ and the buffers o₀ and f₀ has taken i entries: what is left of it gives the whole
+pub record Going (s o₀ f₀ : List ℕ) (m₀ : Machine) (o f : List ℕ) (m : Machine) (r : Report) (i : ℕ) : Type 0 where
   pub taken : i ≤ entriesIn s
   pub few : Few i r
   pub long : length o ≡ length o₀
+  pub free-long : length f ≡ length f₀
   pub ran : ranFrom m r (cut (entriesIn s - i) (drop (10 * i) s)) ≡ ranFrom m₀ (reportOf 0) (entriesOf s)
   pub replies : overlaid o (8 * i) (repliesFrom m (cut (entriesIn s - i) (drop (10 * i) s))) ≡ overlaid o₀ 0 (repliesFrom m₀ (entriesOf s))
+  pub noted : notedAt f i (notesFrom m (cut (entriesIn s - i) (drop (10 * i) s))) ≡ notedBy (notesFrom m₀ (entriesOf s)) f₀
 
 -- the part of the bytes that a run hands on is the next entry
 pub piece : (s : List ℕ) (at : ℕ) → at ≤ length s → take (min (at + 10) (length s) - at) (drop at s) ≡ take 10 (drop at s)
@@ -44,24 +47,26 @@ over-length o at b h =
     let t = length-take-le at o (omega arith) in
     simp length-append (omega arith)
 
-module _ (s o₀ : List ℕ) (m₀ : Machine) where
-  pub starts : Going s o₀ m₀ o₀ m₀ (reportOf 0) 0
+module _ (s o₀ f₀ : List ℕ) (m₀ : Machine) where
+  pub starts : Going s o₀ f₀ m₀ o₀ f₀ m₀ (reportOf 0) 0
   starts =
       let none : entriesIn s - 0 ≡ entriesIn s = omega arith in
       record {
         taken = omega arith;
         few = record { accepted = omega arith; loads = omega arith; load-steps = omega arith; turned-back = omega arith; swaps = omega arith };
         long = refl;
+        free-long = refl;
         ran = rw none;
         replies = rw none;
+        noted = rw none (noted-front f₀ (notesFrom m₀ (entriesOf s)));
       }
 
-  module _ (o : List ℕ) (m : Machine) (r : Report) (i : ℕ) (g : Going s o₀ m₀ o m r i) where
-    pub ends : entriesIn s ≤ i → (record { machine = m; report = r } ≡ ranFrom m₀ (reportOf 0) (entriesOf s)) × (o ≡ overlaid o₀ 0 (repliesFrom m₀ (entriesOf s)))
+  module _ (o f : List ℕ) (m : Machine) (r : Report) (i : ℕ) (g : Going s o₀ f₀ m₀ o f m r i) where
+    pub ends : entriesIn s ≤ i → (record { machine = m; report = r } ≡ ranFrom m₀ (reportOf 0) (entriesOf s)) × (o ≡ overlaid o₀ 0 (repliesFrom m₀ (entriesOf s))) × (f ≡ notedBy (notesFrom m₀ (entriesOf s)) f₀)
     ends h =
         let all : i ≡ entriesIn s = omega (arith, g .taken) in
         let none : cut (entriesIn s - i) (drop (10 * i) s) ≡ [] = ap (λ (k : ℕ). cut (entriesIn s - k) (drop (10 * i) s)) all ∙ cut-none (entriesIn s) (drop (10 * i) s) in
-        (sym (ran-ends m r) ∙ (rw none at (g .ran)), sym (over-none o (8 * i)) ∙ ap (overlaid o (8 * i)) (sym (replies-end m)) ∙ (rw none at (g .replies)))
+        (sym (ran-ends m r) ∙ (rw none at (g .ran)), sym (over-none o (8 * i)) ∙ ap (overlaid o (8 * i)) (sym (replies-end m)) ∙ (rw none at (g .replies)), sym (noted-ends f i m) ∙ (rw none at (g .noted)))
 
     module _ (more : i < entriesIn s) (room : 8 * entriesIn s ≤ length o₀) where
       abbrev e : List ℕ
@@ -76,19 +81,22 @@ module _ (s o₀ : List ℕ) (m₀ : Machine) where
       pub stops : accepted (applyOf m e .answer) ≡ false
           → (record { machine = applyOf m e .machine; report = refusedAt (numberOf (applyOf m e .answer)) r } ≡ ranFrom m₀ (reportOf 0) (entriesOf s))
           × (overlaid o (8 * i) (replyBytes (applyOf m e)) ≡ overlaid o₀ 0 (repliesFrom m₀ (entriesOf s)))
+          × (set f i (freeNow (applyOf m e .machine)) ≡ notedBy (notesFrom m₀ (entriesOf s)) f₀)
       stops h =
-          (sym (ran-stops m r e _ h) ∙ (rw next at (g .ran)), ap (overlaid o (8 * i)) (sym (replies-stop m r e _ h)) ∙ (rw next at (g .replies)))
+          (sym (ran-stops m r e _ h) ∙ (rw next at (g .ran)), ap (overlaid o (8 * i)) (sym (replies-stop m r e _ h)) ∙ (rw next at (g .replies)), sym (noted-stops f i m e _ h) ∙ (rw next at (g .noted)))
 
-      pub goes-on : accepted (applyOf m e .answer) ≡ true → Going s o₀ m₀ (overlaid o (8 * i) (replyBytes (applyOf m e))) (applyOf m e .machine) (counted m e r) (i + 1)
+      pub goes-on : accepted (applyOf m e .answer) ≡ true → Going s o₀ f₀ m₀ (overlaid o (8 * i) (replyBytes (applyOf m e))) (set f i (freeNow (applyOf m e .machine))) (applyOf m e .machine) (counted m e r) (i + 1)
       goes-on h =
           let at : 8 * i + 8 ≡ 8 * (i + 1) = omega arith in
           record {
             taken = omega arith;
             few = rw (counted-by m e r h) (few-more i r (kindOf e) (taskOf m e .phase) (taskOf (applyOf m e .machine) e .phase) (g .few));
             long = over-length o (8 * i) (replyBytes (applyOf m e)) fits ∙ g .long;
+            free-long = length-set f i _ ∙ g .free-long;
             ran = sym (ran-on m r e _ h) ∙ (rw next at (g .ran));
             replies = ap (λ (k : ℕ). overlaid (overlaid o (8 * i) (replyBytes (applyOf m e))) k (repliesFrom (applyOf m e .machine) (cut (entriesIn s - (i + 1)) (drop (10 * (i + 1)) s)))) (sym at)
                 ∙ over-more o (8 * i) (replyBytes (applyOf m e)) _ fits ∙ ap (overlaid o (8 * i)) (sym (replies-on m r e _ h)) ∙ (rw next at (g .replies));
+            noted = sym (noted-on f i m e _ h) ∙ (rw next at (g .noted));
           }
 
       -- the same of an entry that was decided, for the part x of the bytes that is the next entry
@@ -99,18 +107,17 @@ module _ (s o₀ : List ℕ) (m₀ : Machine) where
         wrote-e : o′ ≡ overlaid o (8 * i) (replyBytes (applyOf m e))
         wrote-e = wrote ∙ ap (overlaid o (8 * i)) (sym (decision-bytes m x t inside known d is) ∙ ap (λ (z : List ℕ). replyBytes (applyOf m z)) q)
 
-        pub decision-stops : (y : Refusal) → d .effect ≡ Refuses y → (record { machine = m; report = r′ } ≡ ranFrom m₀ (reportOf 0) (entriesOf s)) × (o′ ≡ overlaid o₀ 0 (repliesFrom m₀ (entriesOf s)))
-        decision-stops y h =
+        pub decision-stops : (y : Refusal) → d .effect ≡ Refuses y → (f′ : List ℕ) → f′ ≡ set f i (freeNow m) → (record { machine = m; report = r′ } ≡ ranFrom m₀ (reportOf 0) (entriesOf s)) × (o′ ≡ overlaid o₀ 0 (repliesFrom m₀ (entriesOf s))) × (f′ ≡ notedBy (notesFrom m₀ (entriesOf s)) f₀)
+        decision-stops y h f′ notes =
             let a : applyOf m e ≡ refusedBy m (d .task) y = ap (applyOf m) (sym q) ∙ applied-refuses m x t inside known d is y h in
             let report : r′ ≡ refusedAt (refusalNumber y) r = told ∙ ap (toldOf r (kindOf x) (t .phase)) h in
             let w = stops (ap (λ (z : Applied). accepted (z .answer)) a) in
-            (ap (λ (k : Report). record { machine = m; report = k }) report ∙ ap (λ (z : Applied). record { machine = z .machine; report = refusedAt (numberOf (z .answer)) r }) (sym a) ∙ w .0, wrote-e ∙ w .1)
+            (ap (λ (k : Report). record { machine = m; report = k }) report ∙ ap (λ (z : Applied). record { machine = z .machine; report = refusedAt (numberOf (z .answer)) r }) (sym a) ∙ w .0, wrote-e ∙ w .1, notes ∙ ap (λ (z : Applied). set f i (freeNow (z .machine))) (sym a) ∙ w .2)
 
-        pub decision-goes-on : (y : Deed) → d .effect ≡ Does y → length (m .tasks) ≡ 16 → (m′ : Machine) → m′ ≡ written m (record { 0 = d .task }) (y .task) (y .write) → Going s o₀ m₀ o′ m′ r′ (i + 1)
-        decision-goes-on y h long m′ after =
+        pub decision-goes-on : (y : Deed) → d .effect ≡ Does y → length (m .tasks) ≡ 16 → (m′ : Machine) → m′ ≡ written m (record { 0 = d .task }) (y .task) (y .write) → (f′ : List ℕ) → f′ ≡ set f i (freeNow m′) → Going s o₀ f₀ m₀ o′ f′ m′ r′ (i + 1)
+        decision-goes-on y h long m′ after f′ notes =
             let taken : accepted (applyOf m e .answer) ≡ true = ap (λ (z : List ℕ). accepted (applyOf m z .answer)) (sym q) ∙ decision-accepted m x t inside known d is y h in
             let machine : m′ ≡ applyOf m e .machine = after ∙ ap (λ (z : Applied). z .machine) (sym (applied-does m x t inside known d is y h)) ∙ ap (λ (z : List ℕ). applyOf m z .machine) q in
             let report : r′ ≡ counted m e r = told ∙ decision-counted m x t inside known d is y h r long ∙ ap (λ (z : List ℕ). counted m z r) q in
-            subst (λ (z : List ℕ). Going s o₀ m₀ z m′ r′ (i + 1)) (sym wrote-e)
-            (subst (λ (k : Machine). Going s o₀ m₀ (overlaid o (8 * i) (replyBytes (applyOf m e))) k r′ (i + 1)) (sym machine)
-            (subst (λ (k : Report). Going s o₀ m₀ (overlaid o (8 * i) (replyBytes (applyOf m e))) (applyOf m e .machine) k (i + 1)) (sym report) (goes-on taken)))
+            let noted : f′ ≡ set f i (freeNow (applyOf m e .machine)) = notes ∙ ap (λ (z : Machine). set f i (freeNow z)) machine in
+            rw (wrote-e, noted, machine, report) (goes-on taken)

@@ -1,6 +1,6 @@
 -- A run of a whole schedule from bytes: its entries, its replies and its six numbers, built on single entries.
 use Prim.Native.Nat.{ℕ, zero, suc, _+_, _*_, _/_}
-use mathlib.Core.Bool.{cond, not, _&&_}
+use mathlib.Core.Bool.{Bool, cond, not, _&&_}
 use mathlib.Core.List.{List, [], _∷_, _++_}
 use lib.Dec.{leb, ltb}
 use lib.ListN.{length, take, drop}
@@ -8,6 +8,7 @@ use Rattle.wire.specs.Bytes.{replyOf}
 use Rattle.answers.specs.Numbers.{refusalNumber, numberOf, valueOf}
 use Rattle.cells.specs.Machine.{inRange}
 use Rattle.cells.specs.Apply.{applyOf}
+use Rattle.cells.specs.Free.{freeOf, freeValue}
 use Rattle.runs.specs.Types.{Machine, Applied, Refusal, NoRoom, Damaged, TooLong, Report, Ran}
 use Rattle.runs.specs.Counts.{accepted, anywhere, loadsAt, stepsAt, turnedAt, swapsAt}
 
@@ -31,6 +32,15 @@ replyBytes a = replyOf (numberOf (a .answer)) (a .task) (valueOf (a .answer))
 unfoldable pub repliesFrom : Machine → List (List ℕ) → List ℕ
 repliesFrom m [] = []
 repliesFrom m (e ∷ es) = replyBytes (applyOf m e) ++ cond (accepted (applyOf m e .answer)) (repliesFrom (applyOf m e .machine) es) []
+
+-- the free-nodes question's answer for a record
+abbrev pub freeNow : Machine → ℕ
+freeNow m = freeValue (freeOf (m .n) (m .p) (m .k) (m .free))
+
+-- that answer after each entry, up to the first refused one and after it
+unfoldable pub notesFrom : Machine → List (List ℕ) → List ℕ
+notesFrom m [] = []
+notesFrom m (e ∷ es) = freeNow (applyOf m e .machine) ∷ cond (accepted (applyOf m e .answer)) (notesFrom (applyOf m e .machine) es) []
 
 -- no entry tried: the number in its place, all counts 0
 abbrev pub reportOf : ℕ → Report
@@ -75,10 +85,22 @@ ranOf m s room =
     (cond (ltb room (8 * entriesIn s)) (untriedOf m NoRoom)  -- 21
     (ranFrom m (reportOf 0) (entriesOf s))))
 
+-- that run is not refused before its first entry
+abbrev pub startsOf : Machine → List ℕ → ℕ → Bool
+startsOf m s room = inRange m && leb (length s) 65530 && leb (8 * entriesIn s) room
+
 -- the replies of that run: none where no entry was tried
 unfoldable pub repliesOf : Machine → List ℕ → ℕ → List ℕ
-repliesOf m s room = cond (inRange m && leb (length s) 65530 && leb (8 * entriesIn s) room) (repliesFrom m (entriesOf s)) []
+repliesOf m s room = cond (startsOf m s room) (repliesFrom m (entriesOf s)) []
 
 -- the reply buffer at exit: the replies, and after them what it held
 unfoldable pub bufferOf : Machine → List ℕ → List ℕ → List ℕ
 bufferOf m s out = repliesOf m s (length out) ++ drop (length (repliesOf m s (length out))) out
+
+-- a buffer with these answers from its front on, as far as it goes, and after them what it held
+abbrev pub notedBy : List ℕ → List ℕ → List ℕ
+notedBy notes free = take (length free) notes ++ drop (length notes) free
+
+-- the buffer for that run's answers at exit: as it was, where no entry was tried
+unfoldable pub notedOf : Machine → List ℕ → ℕ → List ℕ → List ℕ
+notedOf m s room free = cond (startsOf m s room) (notedBy (notesFrom m (entriesOf s)) free) free

@@ -6,9 +6,10 @@ use steps::Effect;
 use tasks::TaskNo;
 ghost use mathlib.Core.Path.{_≡_};
 ghost use Prim.Native.Nat.{_+_, _*_, _≤_, min};
-ghost use lib.ListN.{length};
+ghost use lib.ListN.{length, set};
 ghost use Rattle.wire.specs.Bytes.{overlaid};
-ghost use Rattle.runs.specs.Run.{entriesIn, entriesOf, repliesFrom, reportOf, ranFrom, untriedOf, ranOf, bufferOf};
+ghost use Rattle.cells.specs.Free.{freeOf, freeValue};
+ghost use Rattle.runs.specs.Run.{entriesIn, entriesOf, repliesFrom, notesFrom, notedBy, reportOf, ranFrom, untriedOf, ranOf, bufferOf, notedOf};
 ghost use Rattle.runs.specs.OneEntry.{loadBegun, loadStep, wentOf, countedBy, Few, toldOf, decisionBytes};
 
 // Entries accepted, the refusal or 0, loads begun, load steps, turned-back checks, swaps that took: all for one run.
@@ -120,6 +121,16 @@ fn told(out: &mut [u8], i: usize, d: Decision, kind: u8, from: u8, r: Report) ->
     }
 }
 
+// The free-nodes question, asked of a record with these numbers: the answer stands at place i, where the buffer has one.
+fn note(free: &mut [u8], i: usize, n: u8, p: u8, k: u8, kept: u8)
+    ensures { λ _. ⌜ now (free .exit) ≡ set (now (free .entry)) i (freeValue (freeOf n p k kept)) ⌝ }
+{
+    if free.len() <= i {
+        return;
+    }
+    free[i] = cells::free_value(cells::free_nodes(n, p, k, kept));
+}
+
 // Where the entry that starts at `at` ends, in n bytes: a cut one ends with them.
 fn entry_end(at: usize, n: usize) -> usize
     requires { ⌜ at ≤ n ⌝ }
@@ -129,9 +140,9 @@ fn entry_end(at: usize, n: usize) -> usize
 }
 
 // The entries one after the other, up to the first refused one. The record stays where it is: handing it over by value would copy it at each entry.
-fn run_entries(m: Machine, s: &[u8], out: &mut [u8]) -> Ran
+fn run_entries(m: Machine, s: &[u8], out: &mut [u8], free: &mut [u8]) -> Ran
     requires { ⌜ (length (now s) ≤ 65530) × (8 * entriesIn (now s) ≤ length (now out)) ⌝ }
-    ensures { λ r. ⌜ (r ≡ ranFrom m (reportOf 0) (entriesOf (now (s .entry)))) × (now (out .exit) ≡ overlaid (now (out .entry)) 0 (repliesFrom m (entriesOf (now (s .entry))))) ⌝ }
+    ensures { λ r. ⌜ (r ≡ ranFrom m (reportOf 0) (entriesOf (now (s .entry)))) × (now (out .exit) ≡ overlaid (now (out .entry)) 0 (repliesFrom m (entriesOf (now (s .entry))))) × (now (free .exit) ≡ notedBy (notesFrom m (entriesOf (now (s .entry)))) (now (free .entry))) ⌝ }
 {
     let n = s.len();
     let count = (n + 9) / 10;
@@ -163,6 +174,7 @@ fn run_entries(m: Machine, s: &[u8], out: &mut [u8]) -> Ran
         let effect = d.effect;
         match effect {
             Effect::Refuses(_) => {
+                note(free, i, machine.n, machine.p, machine.k, machine.free);
                 return Ran {
                     machine: machine,
                     report: report,
@@ -178,6 +190,7 @@ fn run_entries(m: Machine, s: &[u8], out: &mut [u8]) -> Ran
                 machine.free = cells::write_free(machine.free, w);
             }
         }
+        note(free, i, machine.n, machine.p, machine.k, machine.free);
         i += 1;
     }
     Ran {
@@ -196,9 +209,10 @@ fn untried(m: Machine, refusal: Refusal) -> Ran
     }
 }
 
-// A run: 22 by ranges, 23 and 21 before any entry is tried, in that order.
-pub fn run(m: Machine, s: &[u8], out: &mut [u8]) -> Ran
-    ensures { λ r. ⌜ (r ≡ ranOf m (now (s .entry)) (length (now (out .entry)))) × (now (out .exit) ≡ bufferOf m (now (s .entry)) (now (out .entry))) ⌝ }
+// A run: 22 by ranges, 23 and 21 before any entry is tried, in that order. `free` gets the number of free nodes after each entry that is tried, as far as
+// it goes.
+pub fn run_free(m: Machine, s: &[u8], out: &mut [u8], free: &mut [u8]) -> Ran
+    ensures { λ r. ⌜ (r ≡ ranOf m (now (s .entry)) (length (now (out .entry)))) × (now (out .exit) ≡ bufferOf m (now (s .entry)) (now (out .entry))) × (now (free .exit) ≡ notedOf m (now (s .entry)) (length (now (out .entry))) (now (free .entry))) ⌝ }
 {
     if !m.in_range() {
         return untried(m, Refusal::Damaged);
@@ -210,5 +224,13 @@ pub fn run(m: Machine, s: &[u8], out: &mut [u8]) -> Ran
     if out.len() < 8 * ((n + 9) / 10) {
         return untried(m, Refusal::NoRoom);
     }
-    run_entries(m, s, out)
+    run_entries(m, s, out, free)
+}
+
+// A run whose free nodes nobody asks for.
+pub fn run(m: Machine, s: &[u8], out: &mut [u8]) -> Ran
+    ensures { λ r. ⌜ (r ≡ ranOf m (now (s .entry)) (length (now (out .entry)))) × (now (out .exit) ≡ bufferOf m (now (s .entry)) (now (out .entry))) ⌝ }
+{
+    let mut none: [u8; 0] = [];
+    run_free(m, s, out, &mut none)
 }
