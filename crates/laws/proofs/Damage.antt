@@ -17,7 +17,7 @@ use Rattle.tasks.specs.Records.{onward, probing, taskOk}
 use Rattle.tasks.specs.Phases.{isPhase, holds}
 use Rattle.steps.specs.Table.{after, freeAfter, recountedOf, raisedOf, loweredOf, counting, leaving, s6, rows, noPhase, effectOf}
 use Rattle.tables.specs.Tables.{sizesOk, cellOk, countOk, taskOkIn}
-use Rattle.cells.specs.Machine.{seenOf, inRange}
+use Rattle.cells.specs.Machine.{seenOf, poolOk, inRange}
 use Rattle.cells.specs.Apply.{applyOf}
 use Rattle.runs.specs.Counts.{accepted}
 use Rattle.runs.specs.Run.{entriesOf, reportOf, counted, ranFrom, ranOf}
@@ -42,9 +42,9 @@ module _ (m : Machine) (K : Kept m) where
   free-most : m .free ≤ m .k
   free-most = rw (K .told) (total-most (λ i. bit (eqb (getD (m .counts) i 0) 0)) (m .k) (λ i. bit-le (eqb (getD (m .counts) i 0) 0)))
 
-  pub in-range : inRange m ≡ true
-  unfolding inRange sizesOk
-  in-range =
+  pub pool-ok : poolOk (m .n) (m .p) (m .k) (m .free) ≡ true
+  unfolding sizesOk
+  pool-ok =
       let k = K .sound in
       rw (
         within-true 1 64 (m .n) (k .a-cell) (k .cells),
@@ -52,6 +52,14 @@ module _ (m : Machine) (K : Kept m) where
         le-leb (m .n + 2 * m .p) (m .k) (k .room),
         le-leb (m .k) 128 (k .nodes),
         le-leb (m .free) (m .k) free-most,
+      )
+
+  pub in-range : inRange m ≡ true
+  unfolding inRange
+  in-range =
+      let k = K .sound in
+      rw (
+        pool-ok,
         every-true (cellOk (m .cells) (m .k)) (m .n) (λ x h. lt-ltb _ _ (k .pointed x h)),
         every-true (countOk (m .counts) (m .p)) (m .k) (λ i h. le-leb _ _ (count-most m K i h)),
         every-true (taskOkIn (m .tasks) (m .n) (m .k)) (m .p) task-ok,

@@ -17,6 +17,7 @@ pub mod Numbers
 pub mod Bound
 pub mod Solo
 pub mod Counts
+pub mod Free
 pub mod Busy
 pub mod Sharp
 pub mod Demands
