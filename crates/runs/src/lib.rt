@@ -187,10 +187,11 @@ fn run_entries(m: Machine, s: &[u8], out: &mut [u8], free: &mut [u8]) -> Ran
                 cells::write_cells(&mut machine.cells, w);
                 cells::write_values(&mut machine.values, w);
                 cells::write_counts(&mut machine.counts, w);
-                machine.free = cells::write_free(machine.free, w);
+                let left = cells::write_free(machine.free, w);
+                note(free, i, machine.n, machine.p, machine.k, left);
+                machine.free = left;
             }
         }
-        note(free, i, machine.n, machine.p, machine.k, machine.free);
         i += 1;
     }
     Ran {
