@@ -3,9 +3,7 @@ use crate::hurts;
 use crate::lines;
 
 fn asked(n: u8, p: u8, k: u8, free: u8) {
-    lines::sizes(n, p, k);
-    io::write_all(1, b" ");
-    lines::free(free);
+    lines::sizes_and_free(n, p, k, free);
     lines::question(cells::free_nodes(n, p, k, free));
 }
 
@@ -30,7 +28,7 @@ pub(crate) fn numbers() {
 
 // Every table is damaged, and the counts say that no node is free.
 fn elsewhere() {
-    io::write_all(1, b"tables and task 0 damaged");
+    lines::elsewhere();
     let mut d = hurts::sound();
     d.cells = [255; 64];
     d.counts = [255; 128];
@@ -40,7 +38,7 @@ fn elsewhere() {
 }
 
 pub(crate) fn records() {
-    io::write_all(1, b"sound");
+    lines::sound();
     lines::question(hurts::sound().free_nodes());
     elsewhere();
     lines::free(101);

@@ -26,6 +26,19 @@ pub(crate) fn free(n: u8) {
     named(b"free", n as u64);
 }
 
+pub(crate) fn sizes_and_free(n: u8, p: u8, k: u8, f: u8) {
+    sizes(n, p, k);
+    named(b" free", f as u64);
+}
+
+pub(crate) fn sound() {
+    io::write_all(1, b"sound");
+}
+
+pub(crate) fn elsewhere() {
+    io::write_all(1, b"tables and task 0 damaged");
+}
+
 pub(crate) fn step_after(phase: u8, count: u8) {
     io::write_all(1, b", ");
     step(phase, count);
