@@ -21,7 +21,7 @@ use Rattle.cells.specs.Apply.{judgedOf, guarded, decisionOf, carriedBy, applyOf
 use Rattle.cells.specs.Setup.{freshOf}
 use Rattle.cells.proofs.Decide.{guarded-same}
 use Rattle.runs.specs.Counts.{taskOf}
-use Rattle.laws.specs.Types.{TaskNo, Task, Seen, Write, Nothing, Point, Count, Value, Deed, Effect, Does, Refuses, Entry, EntryRead, Whole, Unread, Machine, Decision}
+use Rattle.laws.specs.Types.{TaskNo, Task, Write, Nothing, Point, Count, Value, Effect, Does, Refuses, Entry, EntryRead, Whole, Unread, Machine, Decision}
 use Rattle.laws.specs.Kept.{InRange, Kept}
 use Rattle.laws.specs.Schedules.{applied, Reached}
 use Rattle.laws.specs.Beyond.{Bare, Agree, Alike, Alike-after}

@@ -3,17 +3,16 @@ use Prim.Native.Nat.{ℕ, zero, suc, _+_, _-_, _*_, _≤_, _<_}
 use native.Mathlib.Omega.{arith}
 use native.Mathlib.Decide.{decLe}
 use mathlib.Core.Path.{_≡_, refl, sym, ap, _∙_}
-use mathlib.Core.Bool.{Bool, true, false, cond}
+use mathlib.Core.Bool.{Bool, false, cond}
 use mathlib.Core.List.{List, [], _∷_}
 use lib.ListN.{length, getD, take, drop, length-append, length-take, length-drop, List·getD-append, List·getD-eq-default}
 use lib.Seq.{getD-append-add, getD-drop, getD-take}
 use borrow.Author.Tests.{le-leb}
 use Rattle.cells.specs.declared.FreeCount.the-variants.{Free}
-use Rattle.cells.specs.Machine.{inRange}
 use Rattle.cells.specs.Apply.{applyOf}
 use Rattle.cells.specs.Free.{freeOf, freeValue}
 use Rattle.runs.specs.Counts.{accepted}
-use Rattle.runs.specs.Run.{entriesIn, entriesOf, freeNow, notesFrom, startsOf, notedBy, notedOf}
+use Rattle.runs.specs.Run.{entriesIn, entriesOf, notesFrom, startsOf, notedBy, notedOf}
 use Rattle.laws.specs.Types.{Machine}
 use Rattle.laws.specs.Meaning.{free}
 use Rattle.laws.specs.Kept.{Kept}

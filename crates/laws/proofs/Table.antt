@@ -20,7 +20,7 @@ use Rattle.tasks.specs.Holders.{keeps}
 use Rattle.steps.specs.Table.{after, effectOf}
 use Rattle.cells.specs.Machine.{seenOf, written}
 use Rattle.cells.specs.Apply.{applyOf}
-use Rattle.laws.specs.Types.{CellNo, NodeNo, TaskNo, Task, Load, Store, Release, Validate, Nothing, Point, Count, Value, Deed, Does, Machine}
+use Rattle.laws.specs.Types.{CellNo, NodeNo, TaskNo, Task, Load, Store, Release, Validate, Nothing, Point, Value, Deed, Does, Machine}
 use Rattle.laws.specs.Meaning.{points, claims, pointers}
 use Rattle.laws.specs.Kept.{InRange, Kept}
 use Rattle.laws.proofs.Phases.{implied}

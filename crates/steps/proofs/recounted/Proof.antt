@@ -1,10 +1,7 @@
 -- `recounted`: the two tests that refuse, then the count with the number of free nodes. Assumes nothing.
-use Prim.Native.Nat.{_+_, _<_}
-use mathlib.Core.Path.{_≡_}
 use native.Mathlib.Omega.{arith}
 use lib.Dec.{eqb}
 use borrow.Author.Tests.{lt-ltb, le-ltb}
-use Rattle.tallies.specs.Tally.{bit}
 use Rattle.tallies.proofs.Tally.{bit-le}
 use Rattle.steps.specs.Table.{recountedOf}
 use borrow.Author.Needs.{needs}
