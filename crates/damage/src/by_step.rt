@@ -2,27 +2,18 @@
 use crate::hurts;
 use crate::lines;
 use crate::shows;
-use tasks::TaskNo;
 
 const GO: u8 = 0;
 
 fn stepped(phase: u8, count: u8) {
     lines::step(phase, count);
-    let t = hurts::task(phase, 0, 0, 3, 0);
-    let mut d = hurts::replaced(TaskNo(1), t);
-    d.counts[0] = count;
-    shows::shows(d, GO);
+    shows::shows(hurts::stepping(phase, count, 96), GO);
 }
 
-// The same where the record has so many nodes free; node 0 is the cursor's too.
+// The same where the record has so many nodes free.
 fn stepped_with(free: u8, phase: u8, count: u8) {
-    lines::free(free);
-    lines::step_after(phase, count);
-    let t = hurts::task(phase, 0, 0, 3, 0);
-    let mut d = hurts::replaced(TaskNo(1), t);
-    d.counts[0] = count;
-    d.free = free;
-    shows::shows(d, GO);
+    lines::free_and_step(free, phase, count);
+    shows::shows(hurts::stepping(phase, count, free), GO);
 }
 
 pub(crate) fn frees() {

@@ -38,3 +38,12 @@ pub(crate) fn replaced(p: TaskNo, t: Task) -> Machine {
     d.tasks[j] = t;
     d
 }
+
+// Task 1 in that phase, at cell 0, with node 0 as its m and its cursor; node 0 has that count, and so many nodes are free.
+pub(crate) fn stepping(phase: u8, count: u8, free: u8) -> Machine {
+    let t = task(phase, 0, 0, 3, 0);
+    let mut d = replaced(TaskNo(1), t);
+    d.counts[0] = count;
+    d.free = free;
+    d
+}

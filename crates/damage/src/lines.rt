@@ -39,7 +39,8 @@ pub(crate) fn elsewhere() {
     io::write_all(1, b"tables and task 0 damaged");
 }
 
-pub(crate) fn step_after(phase: u8, count: u8) {
+pub(crate) fn free_and_step(f: u8, phase: u8, count: u8) {
+    free(f);
     io::write_all(1, b", ");
     step(phase, count);
 }
