@@ -9,7 +9,7 @@ use Rattle.cells.specs.declared.Machine.{Machine}
 use Rattle.cells.specs.declared.Applied.{Applied}
 use Rattle.cells.specs.declared.SetupAnswer.{SetupAnswer}
 use Rattle.cells.specs.declared.FreeCount.{FreeCount}
-use Rattle.cells.specs.Free.{freeOf, freeNumber, freeValue}
+use Rattle.cells.specs.Free.{freeNodes, freeNumber, freeValue}
 use Rattle.cells.specs.Setup.{setupOf, setupNumber, setupBytes}
 use Rattle.wire.specs.Bytes.{replyOf}
 use Rattle.runs.specs.Run.{sixOf, ranOf, repliesOf}
@@ -71,7 +71,7 @@ abbrev pub agrees : Bench → Machine → List Line → Bool
 agrees b m [] = true
 agrees b m (gives e number p y ∷ ls) = let a = b .apply m e in replied a number p y && agrees b (a .machine) ls
 agrees b m (counts cs ∷ ls) = same (take (m .k) (m .counts)) cs && agrees b m ls
-agrees b m (frees n ∷ ls) = answered (freeOf (m .n) (m .p) (m .k) (m .free)) n && agrees b m ls
+agrees b m (frees n ∷ ls) = answered (freeNodes m) n && agrees b m ls
 
 -- the answer that a setup was given
 abbrev pub setWith : SetupAnswer → ℕ → ℕ → Bool

@@ -23,8 +23,6 @@ use Rattle.cells.proofs.Machine.in_range.Kinds as in-range·k
 use Rattle.cells.proofs.Machine.in_range.Reads as in-range
 use Rattle.cells.proofs.Machine.apply.Kinds as apply·k
 use Rattle.cells.proofs.Machine.apply.Reads as apply
-use Rattle.cells.proofs.Machine.free_nodes.Kinds as machine-free-nodes·k
-use Rattle.cells.proofs.Machine.free_nodes.Reads as machine-free-nodes
 use Rattle.cells.proofs.Machine.holders.Kinds as holders·k
 use Rattle.cells.proofs.Machine.holders.Reads as holders
 use Rattle.cells.proofs.Machine.setup.Kinds as setup·k
@@ -66,9 +64,6 @@ in-range-one κs a z z′ ws ws′ p q q′ = (q ∙ sym q′, refl)
 
 pub apply-one : One apply·k.ps apply·k.r apply.Pre apply.Post
 apply-one κs a z z′ ws ws′ p q q′ = (q ∙ sym q′, refl)
-
-pub machine-free-nodes-one : One machine-free-nodes·k.ps machine-free-nodes·k.r machine-free-nodes.Pre machine-free-nodes.Post
-machine-free-nodes-one κs a z z′ ws ws′ p q q′ = (q ∙ sym q′, refl)
 
 pub holders-one : One holders·k.ps holders·k.r holders.Pre holders.Post
 holders-one κs a z z′ ws ws′ p q q′ = (q ∙ sym q′, refl)

@@ -1,4 +1,4 @@
--- A task's record and the one place, written where they lie, give the machine after the step. Assumes nothing.
+-- A task's record, the one place and the number of free nodes, written where they lie, give the machine after the step. Assumes nothing.
 use Prim.Native.Nat.{ℕ}
 use mathlib.Core.Path.{_≡_, refl, _∙_}
 use mathlib.Core.List.{List}

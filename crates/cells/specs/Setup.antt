@@ -25,8 +25,8 @@ blankOf =
       tasks = replicate 16 noTask;
     }
 
--- cell i points at node i, which holds the given value; task i owns node N+i; counts are 1 below N+P, and the other K-N-P nodes are free; all else
--- is zero
+-- cell i is at node i, whose value is the given one; task i owns node N+i; the first N+P nodes have a count of 1, and the other K-N-P are free; the
+-- rest is zero
 unfoldable pub freshOf : ℕ → ℕ → ℕ → List ℕ → Machine
 freshOf n p k s =
     record {

@@ -20,4 +20,4 @@ pub use Rattle.cells.specs.declared.SetupAnswer.{SetupAnswer}
 pub use Rattle.cells.specs.declared.SetupAnswer.the-variants.{Ready, Refused as NotSetUp}
 pub use Rattle.cells.specs.declared.SetUp.{SetUp}
 pub use Rattle.cells.specs.declared.FreeCount.{FreeCount}
-pub use Rattle.cells.specs.declared.FreeCount.the-variants.{Free, Damaged as NotSound}
+pub use Rattle.cells.specs.declared.FreeCount.the-variants.{Free, Refused as Unanswered}

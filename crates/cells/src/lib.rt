@@ -27,8 +27,7 @@ ghost use Rattle.cells.specs.Free.{freeOf, freeNumber, freeValue};
 ghost use Rattle.cells.specs.Apply.{decidedOf, applyOf};
 ghost use Rattle.cells.specs.Setup.{blankOf, freshOf, refusedSetup, setupOf, setupNumber, setupBytes};
 
-// N, P and K; how many nodes are free; the node that each cell points at; each node's value and count; the task records. What stands past N, P and K
-// makes no difference.
+// N, P, K and the number of free nodes; each cell's node; each node's value and count; the task records. What stands past N, P and K makes no difference.
 pub struct Machine {
     pub n: u8,
     pub p: u8,
@@ -323,18 +322,18 @@ pub fn write_free(free: u8, w: Write) -> u8
     }
 }
 
-// The answer to the free-nodes question; a damaged record is refused with 22.
+// The answer to the free-nodes question; the refusal is number 22.
 pub enum FreeCount {
     Free(u8),
-    Damaged,
+    Refused,
 }
 
-// The free-nodes question: it looks at these four numbers of a record and at no table, so that it may be asked after every entry.
+// The free-nodes question, handed four numbers of a record and none of its tables: it may be asked after every entry.
 pub fn free_nodes(n: u8, p: u8, k: u8, free: u8) -> FreeCount
     ensures { λ r. ⌜ r ≡ freeOf n p k free ⌝ }
 {
     if !pool_ok(n, p, k, free) {
-        return FreeCount::Damaged;
+        return FreeCount::Refused;
     }
     FreeCount::Free(free)
 }
@@ -344,7 +343,7 @@ pub fn free_number(f: FreeCount) -> u8
 {
     match f {
         FreeCount::Free(_) => 0,
-        FreeCount::Damaged => answers::refusal_number(Refusal::Damaged),
+        FreeCount::Refused => answers::refusal_number(Refusal::Damaged),
     }
 }
 
@@ -353,7 +352,7 @@ pub fn free_value(f: FreeCount) -> u8
 {
     match f {
         FreeCount::Free(n) => n,
-        FreeCount::Damaged => 0,
+        FreeCount::Refused => 0,
     }
 }
 
@@ -424,13 +423,6 @@ impl Machine {
                 }
             }
         }
-    }
-
-    // The free-nodes question, asked of the record's own numbers.
-    pub fn free_nodes(self) -> FreeCount
-        ensures { λ r. ⌜ r ≡ freeOf (self .n) (self .p) (self .k) (self .free) ⌝ }
-    {
-        free_nodes(self.n, self.p, self.k, self.free)
     }
 
     // The holders question, asked of the record's own tasks.

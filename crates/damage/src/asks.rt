@@ -1,5 +1,4 @@
-// The free-nodes question, of numbers and of whole records. It looks at N, P, K and the number kept.
-use crate::hurts;
+// The free-nodes question, of N, P, K and the number that a record keeps.
 use crate::lines;
 
 fn asked(n: u8, p: u8, k: u8, free: u8) {
@@ -24,23 +23,4 @@ pub(crate) fn numbers() {
     asked(2, 2, 128, 128);
     asked(2, 2, 129, 0);
     asked(0, 0, 0, 0);
-}
-
-// Every table is damaged, and the counts say that no node is free.
-fn elsewhere() {
-    lines::elsewhere();
-    let mut d = hurts::sound();
-    d.cells = [255; 64];
-    d.counts = [255; 128];
-    let t = hurts::task(255, 255, 255, 255, 255);
-    d.tasks[0] = t;
-    lines::question(d.free_nodes());
-}
-
-pub(crate) fn records() {
-    lines::sound();
-    lines::question(hurts::sound().free_nodes());
-    elsewhere();
-    lines::free(101);
-    lines::question(hurts::freed(101).free_nodes());
 }

@@ -34,7 +34,7 @@ pub(crate) fn sizes() {
 
 fn freed(free: u8) {
     lines::free(free);
-    shows::shows(hurts::freed(free), LOAD);
+    shows::shows_free(hurts::freed(free), LOAD);
 }
 
 pub(crate) fn frees() {

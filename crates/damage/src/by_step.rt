@@ -13,7 +13,7 @@ fn stepped(phase: u8, count: u8) {
 // The same where the record has so many nodes free.
 fn stepped_with(free: u8, phase: u8, count: u8) {
     lines::free_and_step(free, phase, count);
-    shows::shows(hurts::stepping(phase, count, free), GO);
+    shows::shows_free(hurts::stepping(phase, count, free), GO);
 }
 
 pub(crate) fn frees() {

@@ -31,14 +31,6 @@ pub(crate) fn sizes_and_free(n: u8, p: u8, k: u8, f: u8) {
     named(b" free", f as u64);
 }
 
-pub(crate) fn sound() {
-    io::write_all(1, b"sound");
-}
-
-pub(crate) fn elsewhere() {
-    io::write_all(1, b"tables and task 0 damaged");
-}
-
 pub(crate) fn free_and_step(f: u8, phase: u8, count: u8) {
     free(f);
     io::write_all(1, b", ");
@@ -128,5 +120,14 @@ fn bytes(s: &[u8]) {
 pub(crate) fn replies(out: &[u8]) {
     io::write_all(1, b": replies [");
     bytes(out);
+    io::write_all(1, b"]\n");
+}
+
+// The same with the buffer for the numbers of free nodes.
+pub(crate) fn noted(out: &[u8], free_nodes: &[u8]) {
+    io::write_all(1, b": replies [");
+    bytes(out);
+    io::write_all(1, b"]: free nodes [");
+    bytes(free_nodes);
     io::write_all(1, b"]\n");
 }

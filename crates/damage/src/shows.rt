@@ -56,3 +56,17 @@ pub(crate) fn shows(m: Machine, kind: u8) {
     let mut out = [0xAAu8; 16];
     run(m, &s, &mut out);
 }
+
+// A run that asks for the free nodes after each entry, with both buffers after it.
+fn noted(m: Machine, s: &[u8], out: &mut [u8], free_nodes: &mut [u8]) {
+    report(m, runs::run_free(m, s, out, free_nodes));
+    lines::noted(out, free_nodes);
+}
+
+pub(crate) fn shows_free(m: Machine, kind: u8) {
+    tried(m, kind);
+    let s = two(kind);
+    let mut out = [0xAAu8; 16];
+    let mut free_nodes = [0xAAu8; 3];
+    noted(m, &s, &mut out, &mut free_nodes);
+}

@@ -40,16 +40,15 @@ fn six(r: Report) -> [u32; 6]
     ]
 }
 
-// A setup and its schedule. A refused setup writes nothing and gives its number; else the replies, the number of free nodes after each entry that is tried
-// and the six numbers of the run are written, and it gives 0.
+// A setup and its schedule. A refused setup writes nothing and gives its number; else the run's replies, free nodes and six numbers are written: 0.
 #[no_mangle]
 pub extern "C" fn kemilunda_run_free(
     input: &[u8],
     replies: &mut [u8],
-    free: &mut [u8],
+    free_nodes: &mut [u8],
     numbers: &mut [u32; 6],
 ) -> u32
-    ensures { λ r. ⌜ (r ≡ setupRefusal (now (input .entry))) × (now (replies .exit) ≡ repliesAfter (now (input .entry)) (now (replies .entry))) × (now (free .exit) ≡ freeNodesAfter (now (input .entry)) (length (now (replies .entry))) (now (free .entry))) × (now (numbers .exit) ≡ numbersAfter (now (input .entry)) (length (now (replies .entry))) (now (numbers .entry))) ⌝ }
+    ensures { λ r. ⌜ (r ≡ setupRefusal (now (input .entry))) × (now (replies .exit) ≡ repliesAfter (now (input .entry)) (now (replies .entry))) × (now («free_nodes» .exit) ≡ freeNodesAfter (now (input .entry)) (length (now (replies .entry))) (now («free_nodes» .entry))) × (now (numbers .exit) ≡ numbersAfter (now (input .entry)) (length (now (replies .entry))) (now (numbers .entry))) ⌝ }
 {
     let s = Machine::setup(input);
     let a = s.answer;
@@ -57,7 +56,7 @@ pub extern "C" fn kemilunda_run_free(
     match a {
         SetupAnswer::Refused(r) => answers::refusal_number(r) as u32,
         SetupAnswer::Ready(used) => {
-            let ran = runs::run_free(m, &input[used..], replies, free);
+            let ran = runs::run_free(m, &input[used..], replies, free_nodes);
             let report = ran.report;
             *numbers = six(report);
             0

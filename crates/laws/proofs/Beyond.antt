@@ -27,8 +27,8 @@ use Rattle.laws.specs.Schedules.{applied, Reached}
 use Rattle.laws.specs.Beyond.{Bare, Agree, Alike, Alike-after}
 use Rattle.laws.proofs.Entries.{taskNo, by-entry}
 use Rattle.laws.proofs.Rows.{moves}
-use Rattle.laws.proofs.Keeps.{Inside}
-use Rattle.laws.proofs.Table.{row-inside, entry-keeps}
+use Rattle.laws.proofs.Keeps.{Proper}
+use Rattle.laws.proofs.Table.{row-proper, entry-keeps}
 use Rattle.laws.proofs.Start.{Sizes, by-setup, setup-kept}
 use Rattle.laws.proofs.Reached.{scheduled}
 
@@ -51,7 +51,7 @@ fresh-bare n p k s z =
       tasks = λ q h. fill-past (λ (i : ℕ). idleOwning (nodeNo (n + i))) p (replicate 16 noTask) q noTask h ∙ all-same 16 q noTask;
     }
 
-written-bare : (m : Machine) (q : TaskNo) (t : Task) (w : Write) → Bare m → q .0 < m .p → Inside m w → Bare (written m q t w)
+written-bare : (m : Machine) (q : TaskNo) (t : Task) (w : Write) → Bare m → q .0 < m .p → Proper m w → Bare (written m q t w)
 written-bare m q t w B hq hw =
     record {
       cells = λ x h. cells w hw x h ∙ B .cells x h;
@@ -60,19 +60,19 @@ written-bare m q t w B hq hw =
       tasks = λ y h. getD-set-other (m .tasks) (q .0) y t noTask (omega arith) ∙ B .tasks y h;
     }
   where
-    cells : (w : Write) → Inside m w → (x : ℕ) → m .n ≤ x → getD (cellsAfter m w) x 0 ≡ getD (m .cells) x 0
+    cells : (w : Write) → Proper m w → (x : ℕ) → m .n ≤ x → getD (cellsAfter m w) x 0 ≡ getD (m .cells) x 0
     cells Nothing i x h = refl
     cells (Point y v) i x h = getD-set-other (m .cells) (y .0) x (v .0) 0 (omega arith)
     cells (Count v c f) i x h = refl
     cells (Value v y) i x h = refl
 
-    values : (w : Write) → Inside m w → (x : ℕ) → m .k ≤ x → getD (valuesAfter m w) x 0 ≡ getD (m .values) x 0
+    values : (w : Write) → Proper m w → (x : ℕ) → m .k ≤ x → getD (valuesAfter m w) x 0 ≡ getD (m .values) x 0
     values Nothing i x h = refl
     values (Point y v) i x h = refl
     values (Count v c f) i x h = refl
     values (Value v y) i x h = getD-set-other (m .values) (v .0) x y 0 (omega arith)
 
-    counts : (w : Write) → Inside m w → (x : ℕ) → m .k ≤ x → getD (countsAfter m w) x 0 ≡ getD (m .counts) x 0
+    counts : (w : Write) → Proper m w → (x : ℕ) → m .k ≤ x → getD (countsAfter m w) x 0 ≡ getD (m .counts) x 0
     counts Nothing i x h = refl
     counts (Point y v) i x h = refl
     counts (Count v c f) i x h = getD-set-other (m .counts) (v .0) x c 0 (omega arith)
@@ -86,7 +86,7 @@ entry-bare m e K B =
     (λ a. written-bare m (taskNo e) _ Nothing B (a .task) tt)
     (λ a. written-bare m (taskNo e) _ Nothing B (a .task) tt)
     (λ d s. written-bare m (taskNo e) (d .task) (d .write) B (s .task)
-    (row-inside m K (taskNo e) (s .task) (moves (taskOf m e) (seenOf m (taskOf m e)) d (s .does))))
+    (row-proper m K (taskNo e) (s .task) (moves (taskOf m e) (seenOf m (taskOf m e)) d (s .does))))
 
 schedule-bare : (es : List (List ℕ)) (m : Machine) → Kept m → Bare m → Bare (applied m es)
 unfolding applied

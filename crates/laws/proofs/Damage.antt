@@ -10,7 +10,7 @@ use lib.ListN.{getD, set}
 use borrow.Author.Tests.{lt-ltb, le-ltb, le-leb, ne-eqb, eqb-true}
 use Rattle.tallies.proofs.Lists.{within-true, every-true}
 use Rattle.tallies.specs.Tally.{bit}
-use Rattle.tallies.proofs.Tally.{total-most, bit-le, T→true}
+use Rattle.tallies.proofs.Tally.{T→true}
 use Rattle.tallies.proofs.Bounds.{total-part}
 use Rattle.answers.specs.Numbers.{numberOf}
 use Rattle.tasks.specs.Records.{onward, probing, taskOk}
@@ -27,7 +27,7 @@ use Rattle.laws.proofs.Phases.{by-phase, by-test}
 use Rattle.laws.proofs.Entries.{Damage, by-range, by-step, by-entry}
 use Rattle.laws.proofs.Keeps.{task, freed}
 use Rattle.laws.proofs.Table.{entry-keeps}
-use Rattle.laws.proofs.Room.{count-most, can-lower, can-raise}
+use Rattle.laws.proofs.Room.{shared-out, count-most, can-lower, can-raise}
 use Rattle.laws.proofs.Runs.{Run, damaged, too-long, no-room, tries, run}
 
 module _ (m : Machine) (K : Kept m) where
@@ -40,7 +40,7 @@ module _ (m : Machine) (K : Kept m) where
 
   -- no more free nodes than K
   free-most : m .free ≤ m .k
-  free-most = rw (K .told) (total-most (λ i. bit (eqb (getD (m .counts) i 0) 0)) (m .k) (λ i. bit-le (eqb (getD (m .counts) i 0) 0)))
+  free-most = omega (arith, K .free-counted, shared-out (m .counts) (m .k))
 
   pub pool-ok : poolOk (m .n) (m .p) (m .k) (m .free) ≡ true
   unfolding sizesOk
@@ -86,9 +86,9 @@ module _ (m : Machine) (K : Kept m) where
     recounts v c d h e =
         let after = rw e at (freed m K (v .0) d h) in
         let was = rw e at (total-part (λ i. bit (eqb (getD (m .counts) i 0) 0)) (m .k) (v .0) h) in
-        let most = total-most (λ i. bit (eqb (getD (set (m .counts) (v .0) d) i 0) 0)) (m .k) (λ i. bit-le (eqb (getD (set (m .counts) (v .0) d) i 0) 0)) in
+        let most = shared-out (set (m .counts) (v .0) d) (m .k) in
         rw (
-          le-ltb (m .free + bit (eqb d 0)) (bit (eqb c 0)) (omega (arith, was, K .told)),
+          le-ltb (m .free + bit (eqb d 0)) (bit (eqb c 0)) (omega (arith, was, K .free-counted)),
           le-ltb (m .k) (freeAfter (m .free) c d) (omega (arith, after, most)),
         )
 

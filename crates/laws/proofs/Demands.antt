@@ -11,9 +11,9 @@ use Rattle.cells.specs.Machine.{seenOf, inRange}
 use Rattle.cells.specs.Apply.{applyOf}
 use Rattle.cells.specs.Setup.{blankOf, setupOf}
 use Rattle.cells.specs.declared.FreeCount.the-variants.{Free}
-use Rattle.cells.specs.Free.{freeOf}
+use Rattle.cells.specs.Free.{freeNodes}
 use Rattle.runs.specs.Counts.{accepted, taskOf, anywhere, loadsAt, stepsAt, turnedAt, swapsAt}
-use Rattle.runs.specs.Run.{entriesIn, entriesOf, replyBytes, startsOf, repliesOf, untriedOf, ranOf, bufferOf, notedOf}
+use Rattle.runs.specs.Run.{entriesIn, entriesOf, replyBytes, repliesOf, untriedOf, ranOf, bufferOf, notedOf}
 use Rattle.figure1.specs.Figure1.{Call, store, validate, Result, took, lost, good, gone}
 use Rattle.figure1.specs.Histories.{State, Event, begins, ends, after, afterAll, given, Follows, start}
 use Rattle.figure1.specs.Counts.{beginsBy, actsBy, endsBy, number}
@@ -53,7 +53,7 @@ use Rattle.laws.specs.Solo.{Within}
 use Rattle.laws.specs.Numbers.{numbersOf, startRefusal, triedBy, overRuns, triedAll}
 use Rattle.laws.proofs.Room.{count-most, two-free}
 use Rattle.laws.proofs.Counts.{count-is}
-use Rattle.laws.proofs.Free.{told-free, notes-leave, notes-past, notes-untried, notes-free}
+use Rattle.laws.proofs.Free.{told-free, notes-leave, notes-past, notes-free}
 use Rattle.laws.proofs.Busy.{busy-most}
 use Rattle.laws.proofs.Bound.{load-bound, turned-bound}
 use Rattle.laws.proofs.Numbers.{run-starts, run-is, chain-loads, chain-steps, chain-swaps}
@@ -76,20 +76,19 @@ pub buffer-kept : (m : Machine) (s out : List ℕ)
     → (length (bufferOf m s out) ≡ length out) × ((i : ℕ) → length (repliesOf m s (length out)) ≤ i → getD (bufferOf m s out) i 0 ≡ getD out i 0)
 buffer-kept m s out = (buffer-length m s out, buffer-past m s out)
 
--- 22 by the ranges, 23 and 21 leave the record and the whole buffer, and report the number and five zeros (Runs)
-pub refused-run : (m : Machine) (s out : List ℕ)
-    → (inRange m ≡ false → (ranOf m s (length out) ≡ untriedOf m Damaged) × (bufferOf m s out ≡ out))
-    × (inRange m ≡ true → 65530 < length s → (ranOf m s (length out) ≡ untriedOf m TooLong) × (bufferOf m s out ≡ out))
-    × (inRange m ≡ true → length s ≤ 65530 → length out < 8 * entriesIn s → (ranOf m s (length out) ≡ untriedOf m NoRoom) × (bufferOf m s out ≡ out))
-refused-run m s out = (run-damaged m s out, run-long m s out, run-no-room m s out)
+-- and so it leaves the buffer for the numbers of free nodes: its length and every byte after its last number (Free)
+pub notes-kept : (m : Machine) (s : List ℕ) (room : ℕ) (frees : List ℕ)
+    → (length (notedOf m s room frees) ≡ length frees)
+    × ((i : ℕ) → length (tried m (entriesOf s)) ≤ i → getD (notedOf m s room frees) i 0 ≡ getD frees i 0)
+notes-kept m s room frees = (notes-leave m s room frees, notes-past m s room frees)
 
--- and so of the buffer that a run notes the numbers of free nodes in: its length, every byte behind the last number, and where no entry is tried
--- all of it (Free)
-pub notes-kept : (m : Machine) (s : List ℕ) (room : ℕ) (out : List ℕ)
-    → (length (notedOf m s room out) ≡ length out)
-    × ((i : ℕ) → length (tried m (entriesOf s)) ≤ i → getD (notedOf m s room out) i 0 ≡ getD out i 0)
-    × (startsOf m s room ≡ false → notedOf m s room out ≡ out)
-notes-kept m s room out = (notes-leave m s room out, notes-past m s room out, notes-untried m s room out)
+-- 22 by the ranges, 23 and 21 leave the record and both buffers whole, and report the number and five zeros (Runs)
+pub refused-run : (m : Machine) (s out frees : List ℕ)
+    → (inRange m ≡ false → (ranOf m s (length out) ≡ untriedOf m Damaged) × (bufferOf m s out ≡ out) × (notedOf m s (length out) frees ≡ frees))
+    × (inRange m ≡ true → 65530 < length s → (ranOf m s (length out) ≡ untriedOf m TooLong) × (bufferOf m s out ≡ out) × (notedOf m s (length out) frees ≡ frees))
+    × (inRange m ≡ true → length s ≤ 65530 → length out < 8 * entriesIn s
+    → (ranOf m s (length out) ≡ untriedOf m NoRoom) × (bufferOf m s out ≡ out) × (notedOf m s (length out) frees ≡ frees))
+refused-run m s out frees = (run-damaged m s out frees, run-long m s out frees, run-no-room m s out frees)
 
 -- no record reached from an accepted setup meets 22: not by its ranges, not by a step, not in a run (Damage)
 pub never-damaged : {m : Machine} → Reached m
@@ -279,20 +278,6 @@ module _ {m : Machine} (r : Reached m) where
   pub used-limit : used m + 1 ≤ m .n + 2 * m .p
   used-limit = busy-most r
 
--- HOW MANY NODES ARE FREE, of every record reached: the number that the record keeps is the full count, node by node, of those below K whose count
--- is 0; and so is the answer to the question, which looks at no count (Free)
-module _ {m : Machine} (r : Reached m) where
-  pub free-kept : m .free ≡ free m
-  free-kept = reached-kept r .told
-
-  pub free-told : freeOf (m .n) (m .p) (m .k) (m .free) ≡ Free (free m)
-  free-told = told-free m (reached-kept r)
-
-  -- a run that asks after every entry it tries notes the full counts, as far as there is room for them
-  pub free-noted : (s : List ℕ) (room : ℕ) (out : List ℕ) → length s ≤ 65530 → 8 * entriesIn s ≤ room → (i : ℕ) → i < length (tried m (entriesOf s)) → i < length out
-      → getD (notedOf m s room out) i 0 ≡ free (applied m (take (suc i) (tried m (entriesOf s))))
-  free-noted s room out = notes-free m s room out (reached-kept r)
-
 -- in case 10 node 0, which the cell points at and both tasks hold, has the count P + 1 = 3 (Sharp)
 pub count-limit-met : getD (applied Small.fresh Small.case10 .counts) 0 0 ≡ 3
 count-limit-met = Sharp.count-met
@@ -300,6 +285,20 @@ count-limit-met = Sharp.count-met
 -- and after task 1's store N + 2P - 1 = 4 nodes are in use (Sharp)
 pub used-limit-met : used (applied Small.fresh (Small.case10 ++ Small.gos 7 1)) ≡ 4
 used-limit-met = Sharp.busy-met
+
+-- HOW MANY NODES ARE FREE, of every record reached: the number that the record keeps is the full count, node by node, of those below K whose count
+-- is 0; and so is the answer to the question, which looks at no count (Free)
+module _ {m : Machine} (r : Reached m) where
+  pub free-kept : m .free ≡ free m
+  free-kept = reached-kept r .free-counted
+
+  pub free-told : freeNodes m ≡ Free (free m)
+  free-told = told-free m (reached-kept r)
+
+  -- a run that asks after every entry it tries notes the full counts, as far as there is room for them
+  pub free-noted : (s : List ℕ) (room : ℕ) (frees : List ℕ) → length s ≤ 65530 → 8 * entriesIn s ≤ room → (i : ℕ) → i < length (tried m (entriesOf s)) → i < length frees
+      → getD (notedOf m s room frees) i 0 ≡ free (applied m (take (suc i) (tried m (entriesOf s))))
+  free-noted s room frees = notes-free m s room frees (reached-kept r)
 
 -- WHAT A COUNT IS, for whoever asks what a node is owed: the cells, owners and holders that document 01's holders question counts (Counts).
 pub node-owed : {m : Machine} → Reached m → (i : ℕ) → i < m .k

@@ -10,7 +10,7 @@ use lib.Seq.{getD-append-add, getD-drop, getD-take}
 use borrow.Author.Tests.{le-leb}
 use Rattle.cells.specs.declared.FreeCount.the-variants.{Free}
 use Rattle.cells.specs.Apply.{applyOf}
-use Rattle.cells.specs.Free.{freeOf, freeValue}
+use Rattle.cells.specs.Free.{freeOf, freeNodes, freeValue}
 use Rattle.runs.specs.Counts.{accepted}
 use Rattle.runs.specs.Run.{entriesIn, entriesOf, notesFrom, startsOf, notedBy, notedOf}
 use Rattle.laws.specs.Types.{Machine}
@@ -21,9 +21,9 @@ use Rattle.laws.proofs.Phases.{by-test, either}
 use Rattle.laws.proofs.Table.{entry-keeps}
 use Rattle.laws.proofs.Damage.{pool-ok, in-range}
 
-pub told-free : (m : Machine) → Kept m → freeOf (m .n) (m .p) (m .k) (m .free) ≡ Free (free m)
+pub told-free : (m : Machine) → Kept m → freeNodes m ≡ Free (free m)
 unfolding freeOf
-told-free m K = rw (pool-ok m K) (ap Free (K .told))
+told-free m K = rw (pool-ok m K) (ap Free (K .free-counted))
 
 -- one answer for each entry that is tried, and it is the full count after that entry
 pub notes-length : (es : List (List ℕ)) (m : Machine) → length (notesFrom m es) ≡ length (tried m es)
@@ -63,7 +63,7 @@ module _ (notes out : List ℕ) where
             ∙ getD-drop (length notes) out (i - length notes) 0 ∙ ap (λ (j : ℕ). getD out j 0) back)
       ]
 
--- the buffer for the answers keeps its length, every byte behind the last answer, and all of them where no entry is tried
+-- the buffer for the answers keeps its length and every byte behind the last answer
 module _ (m : Machine) (s : List ℕ) (room : ℕ) (out : List ℕ) where
   pub notes-leave : length (notedOf m s room out) ≡ length out
   unfolding notedOf
@@ -74,10 +74,6 @@ module _ (m : Machine) (s : List ℕ) (room : ℕ) (out : List ℕ) where
   notes-past i h =
       by-test (λ (l : List ℕ). getD l i 0 ≡ getD out i 0) (startsOf m s room) _ _
       (λ q. noted-past (notesFrom m (entriesOf s)) out i (omega (arith, notes-length (entriesOf s) m))) (λ q. refl)
-
-  pub notes-untried : startsOf m s room ≡ false → notedOf m s room out ≡ out
-  unfolding notedOf
-  notes-untried q = rw q
 
   -- the i-th answer is the full count after the i-th entry that is tried
   pub notes-free : Kept m → length s ≤ 65530 → 8 * entriesIn s ≤ room → (i : ℕ) → i < length (tried m (entriesOf s)) → i < length out

@@ -2,14 +2,14 @@
 use Prim.Native.Nat.{ℕ, _+_, _-_, _≤_, _<_}
 use native.Mathlib.Omega.{arith}
 use native.Mathlib.Decide.{ℕ-discrete}
-use mathlib.Core.Path.{_≡_, refl, sym, ap, _∙_}
+use mathlib.Core.Path.{_≡_, refl, sym, _∙_}
 use mathlib.Core.List.{List}
 use mathlib.Core.Logic.{_≢_}
 use lib.ListN.{length, getD, set, length-set}
 use lib.Dec.{T, eqb}
 use lib.Seq.{getD-set-same}
-use Rattle.tallies.specs.Tally.{bit, tally, total}
-use Rattle.tallies.proofs.Tally.{tally-set, tally-at, tally-two, total-put, down-at, bit-eq, bit-ne, bit-le, put-at, T→true}
+use Rattle.tallies.specs.Tally.{bit, tally}
+use Rattle.tallies.proofs.Tally.{tally-set, tally-at, tally-two, tally-places, down-at, bit-eq, bit-ne, bit-le, put-at, T→true}
 use Rattle.tasks.specs.Records.{noTask, onward, owning}
 use Rattle.tasks.specs.Phases.{isPhase, holds, live, passed}
 use Rattle.tasks.specs.Holders.{keeps}
@@ -17,7 +17,7 @@ use Rattle.steps.specs.Table.{freeAfter}
 use Rattle.cells.specs.Machine.{cellsAfter, valuesAfter, countsAfter, freeBy, written}
 use Rattle.cells.proofs.Written.{cells-after, values-after, counts-after}
 use Rattle.laws.specs.Types.{NodeNo, TaskNo, Task, Write, Nothing, Point, Count, Value, Machine}
-use Rattle.laws.specs.Meaning.{points, claims, pointers, claimers}
+use Rattle.laws.specs.Meaning.{points, claims, pointers, claimers, freeIn}
 use Rattle.laws.specs.Kept.{Apart, Ready, InRange, Kept}
 use Rattle.laws.proofs.Phases.{phase-gives}
 
@@ -32,12 +32,12 @@ owned t i l r = rw (T→true (live (t .phase)) l) (omega (arith, bit-eq (t .own 
 pub kept : (t : Task) (i : ℕ) → T (isPhase (t .phase)) → T (passed (t .phase)) → t .held .0 ≡ i → 1 ≤ keeps i t
 kept t i h k r = rw (T→true (holds (t .phase)) (phase-gives passed holds tt (t .phase) h k)) (omega (arith, bit-eq (t .held .0) i r))
 
--- a write to one of the cells or nodes of m, and with a count the number of free nodes that it leaves
-abbrev pub Inside : Machine → Write → Type 0
-Inside m Nothing = Unit {0}
-Inside m (Point x v) = x .0 < m .n
-Inside m (Count v d f) = (v .0 < m .k) × (f ≡ freeAfter (m .free) (getD (m .counts) (v .0) 0) d)
-Inside m (Value v y) = v .0 < m .k
+-- a write is proper: to one of the cells or nodes of m, and with a count the number of free nodes that it leaves
+abbrev pub Proper : Machine → Write → Type 0
+Proper m Nothing = Unit {0}
+Proper m (Point x v) = x .0 < m .n
+Proper m (Count v d f) = (v .0 < m .k) × (f ≡ freeAfter (m .free) (getD (m .counts) (v .0) 0) d)
+Proper m (Value v y) = v .0 < m .k
 
 module _ (m : Machine) (K : Kept m) where
   pub in-list : {q : ℕ} → q < m .p → q < length (m .tasks)
@@ -69,16 +69,25 @@ module _ (m : Machine) (K : Kept m) where
         owned (task m y) j l (r ∙ sym q),
       )
 
-  -- the kept number of free nodes is the full count, also after node v's count went to d
-  pub freed : (v d : ℕ) → v < m .k
-      → total (λ i. bit (eqb (getD (set (m .counts) v d) i 0) 0)) (m .k) + bit (eqb (getD (m .counts) v 0) 0) ≡ m .free + bit (eqb d 0)
-  freed v d h = total-put (λ c. bit (eqb c 0)) (m .counts) v d (m .k) h (in-counts h) ∙ ap (λ (x : ℕ). x + bit (eqb d 0)) (sym (K .told))
+  -- how many nodes are free after node v's count went to d
+  pub freed : (v d : ℕ) → v < m .k → freeIn (set (m .counts) v d) (m .k) + bit (eqb (getD (m .counts) v 0) 0) ≡ m .free + bit (eqb d 0)
+  freed v d h =
+      let zero-one : ℕ → ℕ = λ c. bit (eqb c 0) in
+      let long : m .k ≤ length (m .counts) = omega (arith, K .sound .counts-length, K .sound .nodes) in
+      omega (
+        arith,
+        K .free-counted,
+        tally-places zero-one (m .k) (m .counts) 0 long,
+        tally-places zero-one (m .k) (set (m .counts) v d) 0 (omega (arith, length-set (m .counts) v d)),
+        tally-set zero-one (m .k) (m .counts) v d 0 h (in-counts h),
+      )
 
-  tells : (w : Write) → Inside m w → freeBy w (m .free) ≡ total (λ i. bit (eqb (getD (countsAfter m w) i 0) 0)) (m .k)
-  tells Nothing h = K .told
-  tells (Point x v) h = K .told
+  -- the kept number is the full count after a proper write
+  tells : (w : Write) → Proper m w → freeBy w (m .free) ≡ freeIn (countsAfter m w) (m .k)
+  tells Nothing h = K .free-counted
+  tells (Point x v) h = K .free-counted
   tells (Count v d f) h = h .1 ∙ omega (arith, freed (v .0) d (h .0))
-  tells (Value v y) h = K .told
+  tells (Value v y) h = K .free-counted
 
   -- two tasks never own one node
   pub own-apart : (x y : ℕ) → x < m .p → y < m .p → x ≢ y → T (live (task m x .phase)) → T (live (task m y .phase)) → task m x .own .0 ≢ task m y .own .0
@@ -147,7 +156,7 @@ module _ (m : Machine) (K : Kept m) (p : TaskNo) (hp : p .0 < m .p) (t : Task) (
   abbrev pub Leaves : Task → Write → Type 0
   Leaves t′ w = Local t′ (cellsAfter m w) (valuesAfter m w) (countsAfter m w)
 
-  pub stepped : (t′ : Task) (w : Write) → Leaves t′ w → Inside m w → Kept (written m p t′ w)
+  pub stepped : (t′ : Task) (w : Write) → Leaves t′ w → Proper m w → Kept (written m p t′ w)
   stepped t′ w l h = record {
     sound = record {
       cells-length = cells-after m w ∙ K .sound .cells-length;
@@ -163,7 +172,7 @@ module _ (m : Machine) (K : Kept m) (p : TaskNo) (hp : p .0 < m .p) (t : Task) (
       pointed = l .pointed;
       each = λ q hq. put-at (InRange (m .n) (m .k)) (m .tasks) (p .0) t′ noTask (in-list m K hp) (l .in-range) q (λ n. K .sound .each q hq);
     };
-    told = tells m K w h;
+    free-counted = tells m K w h;
     counted = λ i h. omega (arith, K .counted i h, l .balance i h, moved (claims i) t′, moved (keeps i) t′);
     sole = λ i h. omega (arith, l .sole i h, moved (claims i) t′);
     held = l .held;

@@ -4,6 +4,7 @@ use native.Mathlib.Omega.{arith}
 use native.Mathlib.Decide.{ℕ-discrete}
 use mathlib.Core.Path.{_≡_, refl, ap}
 use mathlib.Core.Bool.{Bool, true, false, _&&_}
+use mathlib.Core.List.{List}
 use lib.ListN.{getD}
 use lib.Dec.{T, eqb, ltb}
 use borrow.Author.Tests.{ne-eqb, lt-ltb}
@@ -14,7 +15,7 @@ use Rattle.tasks.specs.Records.{noTask}
 use Rattle.tasks.specs.Phases.{live, holds}
 use Rattle.tasks.specs.Holders.{keeps}
 use Rattle.laws.specs.Types.{Task, Machine}
-use Rattle.laws.specs.Meaning.{points, owns, swapped, pointers, used, free}
+use Rattle.laws.specs.Meaning.{points, owns, swapped, pointers, usedIn, freeIn, used, free}
 use Rattle.laws.specs.Kept.{Kept}
 use Rattle.laws.proofs.Keeps.{task, in-list}
 
@@ -36,6 +37,14 @@ takes-up k t = omega (arith, total-add (λ i. owns i t) (λ i. keeps i t) k, gat
 
 pub two : (k : ℕ) (t : Task) → weighs k t ≤ 2
 two k t = omega (arith, takes-up k t, bit-le (live (t .phase)), bit-le (holds (t .phase)))
+
+-- a node is in use or free
+pub shared-out : (counts : List ℕ) (k : ℕ) → usedIn counts k + freeIn counts k ≡ k
+shared-out counts k = total-split (λ i. bit (ltb 0 (getD counts i 0))) (λ i. bit (eqb (getD counts i 0) 0)) k (λ i h. one (getD counts i 0))
+  where
+    one : (c : ℕ) → bit (ltb 0 c) + bit (eqb c 0) ≡ 1
+    one zero = refl
+    one (suc c) = omega (arith, ap bit (lt-ltb 0 (suc c) (omega arith)), bit-ne (suc c) 0 (omega arith))
 
 module _ (m : Machine) (K : Kept m) where
   abbrev pub per-node : ℕ → ℕ
@@ -71,20 +80,13 @@ module _ (m : Machine) (K : Kept m) where
   pub used-up : used m ≤ m .n + tally (weighs (m .k)) (m .p) (m .tasks)
   used-up = omega (arith, total-mono (λ i. bit (ltb 0 (getD (m .counts) i 0))) per-node (m .k) in-use, shares)
 
-  shared-out : used m + free m ≡ m .k
-  shared-out = total-split (λ i. bit (ltb 0 (getD (m .counts) i 0))) (λ i. bit (eqb (getD (m .counts) i 0) 0)) (m .k) (λ i h. one (getD (m .counts) i 0))
-    where
-      one : (c : ℕ) → bit (ltb 0 c) + bit (eqb c 0) ≡ 1
-      one zero = refl
-      one (suc c) = omega (arith, ap bit (lt-ltb 0 (suc c) (omega arith)), bit-ne (suc c) 0 (omega arith))
-
   pub used-less : (q : ℕ) → q < m .p → task m q .phase ≡ 12 → used m + 2 ≤ m .n + 2 * m .p
   used-less q hq w =
       omega (arith, used-up, tally-short (weighs (m .k)) 2 (m .p) (m .tasks) q noTask (two (m .k)) hq (in-list m K hq), rw w at (takes-up (m .k) (task m q)))
 
   -- while some task probes at least two nodes are free
   pub two-free : (q : ℕ) → q < m .p → task m q .phase ≡ 12 → 2 ≤ free m
-  two-free q hq w = omega (arith, used-less q hq w, shared-out, K .sound .room)
+  two-free q hq w = omega (arith, used-less q hq w, shared-out (m .counts) (m .k), K .sound .room)
 
   -- no count passes P + 1
   pub count-most : (i : ℕ) → i < m .k → getD (m .counts) i 0 ≤ m .p + 1

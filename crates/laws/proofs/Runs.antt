@@ -13,7 +13,7 @@ use Rattle.answers.specs.Numbers.{numberOf}
 use Rattle.cells.specs.Machine.{inRange}
 use Rattle.cells.specs.Apply.{applyOf}
 use Rattle.runs.specs.Counts.{accepted}
-use Rattle.runs.specs.Run.{entriesIn, cut, entriesOf, replyBytes, repliesFrom, reportOf, counted, refusedAt, ranFrom, untriedOf, ranOf, repliesOf, bufferOf}
+use Rattle.runs.specs.Run.{entriesIn, cut, entriesOf, replyBytes, repliesFrom, reportOf, counted, refusedAt, ranFrom, untriedOf, ranOf, repliesOf, bufferOf, notedOf}
 use Rattle.laws.specs.Types.{Refusal, NoRoom, Damaged, TooLong, Machine, Report, Ran}
 use Rattle.laws.specs.Schedules.{applied, tried}
 use Rattle.laws.proofs.Phases.{either}
@@ -48,23 +48,26 @@ ran-applied (e ∷ es) m r =
     either (λ b. cond b (ranFrom m′ (counted m e r) es) stop .machine ≡ applied m′ (cond b (tried m′ es) [])) (accepted (applyOf m e .answer))
     (λ q. ran-applied es m′ (counted m e r)) (λ q. refl)
 
--- refused before any entry: the record, the whole buffer and five zeros, with the number
-module _ (m : Machine) (s out : List ℕ) where
+-- refused before any entry: the record, both buffers whole and five zeros, with the number
+module _ (m : Machine) (s out frees : List ℕ) where
   abbrev Untried : Refusal → Type 0
-  Untried r = (ranOf m s (length out) ≡ untriedOf m r) × (bufferOf m s out ≡ out)
+  Untried r = (ranOf m s (length out) ≡ untriedOf m r) × (bufferOf m s out ≡ out) × (notedOf m s (length out) frees ≡ frees)
 
   pub run-damaged : inRange m ≡ false → Untried Damaged
-  unfolding ranOf repliesOf bufferOf
-  run-damaged q = (rw q, rw q)
+  unfolding ranOf repliesOf bufferOf notedOf
+  run-damaged q = (rw q, rw q, rw q)
 
   pub run-long : inRange m ≡ true → 65530 < length s → Untried TooLong
-  unfolding ranOf repliesOf bufferOf
-  run-long q h = (rw (q, lt-ltb 65530 (length s) h), rw (q, lt-leb (length s) 65530 h))
+  unfolding ranOf repliesOf bufferOf notedOf
+  run-long q h = (rw (q, lt-ltb 65530 (length s) h), rw (q, lt-leb (length s) 65530 h), rw (q, lt-leb (length s) 65530 h))
 
   pub run-no-room : inRange m ≡ true → length s ≤ 65530 → length out < 8 * entriesIn s → Untried NoRoom
-  unfolding ranOf repliesOf bufferOf
-  run-no-room q h k =
-      (rw (q, le-ltb 65530 (length s) h, lt-ltb (length out) (8 * entriesIn s) k), rw (q, le-leb (length s) 65530 h, lt-leb (8 * entriesIn s) (length out) k))
+  unfolding ranOf repliesOf bufferOf notedOf
+  run-no-room q h k = (
+    rw (q, le-ltb 65530 (length s) h, lt-ltb (length out) (8 * entriesIn s) k),
+    rw (q, le-leb (length s) 65530 h, lt-leb (8 * entriesIn s) (length out) k),
+    rw (q, le-leb (length s) 65530 h, lt-leb (8 * entriesIn s) (length out) k),
+  )
 
 -- else the entries are tried
 module _ (m : Machine) (s : List ℕ) (room : ℕ) (q : inRange m ≡ true) (h : length s ≤ 65530) (k : 8 * entriesIn s ≤ room) where

@@ -91,9 +91,9 @@ module _ (n p k : ℕ) (s : List ℕ) (z : Sizes n p k) where
         | no l ↦ rw (count-at i h, le-ltb i (n + p) (omega arith), le-leb (n + p) i (omega arith)) refl
       ]
 
-  fresh-told : fresh .free ≡ free fresh
+  fresh-free : fresh .free ≡ free fresh
   unfolding freshOf
-  fresh-told =
+  fresh-free =
       let a = n + p in
       let f : ℕ → ℕ = λ i. bit (eqb (getD (fresh .counts) i 0) 0) in
       let e : k ≡ a + (k - a) = omega (arith, z .room) in
@@ -124,7 +124,7 @@ module _ (n p k : ℕ) (s : List ℕ) (z : Sizes n p k) where
       pointed = λ x h. rw (cell-at x h) (omega (arith, z .room));
       each = λ q h. rw (task-at q h) (record { phase = omega arith; cell = z .a-cell; held = omega (arith, z .room); own = omega (arith, z .room); cursor = omega (arith, z .room) });
     };
-    told = fresh-told;
+    free-counted = fresh-free;
     counted = λ i h. omega (arith, count-at i h, due i, nobody-keeps i);
     sole = λ i h. omega (arith, due i, bit-le (ltb i (n + p)));
     held = λ x y hx hy. rw (task-at x hx) (λ b. absurd b);

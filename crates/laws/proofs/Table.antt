@@ -26,7 +26,7 @@ use Rattle.laws.specs.Kept.{InRange, Kept}
 use Rattle.laws.proofs.Phases.{implied}
 use Rattle.laws.proofs.Entries.{by-entry, taskNo}
 use Rattle.laws.proofs.Rows.{Moves, l1, l2, l3-passed, l3-turned, l4, l5, s1, s2-swapped, s2-missed, s3-took, s3-shared, s5, s6-took, s6-busy, s7, r1, v1-good, v1-gone, moves}
-use Rattle.laws.proofs.Keeps.{task, in-list, in-counts, in-values, in-cells, pointed, own-apart, part, pairs, tame, Inside, Calm, Local, Leaves, stepped, calm, alone, lowers, claiming}
+use Rattle.laws.proofs.Keeps.{task, in-list, in-counts, in-values, in-cells, pointed, own-apart, part, pairs, tame, Proper, Calm, Local, Leaves, stepped, calm, alone, lowers, claiming}
 
 in-phase : {n k : ℕ} {t : Task} (f : ℕ) → T (isPhase f) → InRange n k t → InRange n k (onward t f)
 in-phase f h r = record { phase = h; cell = r .cell; held = r .held; own = r .own; cursor = r .cursor }
@@ -164,29 +164,29 @@ module _ (m : Machine) (K : Kept m) (p : TaskNo) (hp : p .0 < m .p) where
   row-keeps (v1-good q) e = goes 15 6 e (omega arith) (λ i. omega arith)
   row-keeps (v1-gone q) e = goes 15 6 e (omega arith) (λ i. omega arith)
 
-  -- a row writes inside, and brings the number of free nodes with a count
-  pub row-inside : {n : ℕ} {d : Deed} → Moves t (seenOf m t) n d → Inside m (d .write)
-  row-inside l1 = tt
-  row-inside (l2 h) = (in-t .held, refl)
-  row-inside (l3-passed q) = tt
-  row-inside (l3-turned q) = tt
-  row-inside l4 = tt
-  row-inside (l5 h) = (in-t .held, refl)
-  row-inside s1 = in-t .own
-  row-inside (s2-swapped q) = in-t .cell
-  row-inside (s2-missed q) = tt
-  row-inside (s3-took q) = (in-t .held, refl)
-  row-inside (s3-shared h q) = (in-t .held, refl)
-  row-inside (s5 h) = (in-t .held, refl)
-  row-inside (s6-took q) = (in-t .cursor, rw q refl)
-  row-inside (s6-busy q) = tt
-  row-inside (s7 h) = (in-t .held, refl)
-  row-inside (r1 h) = (in-t .held, refl)
-  row-inside (v1-good q) = tt
-  row-inside (v1-gone q) = tt
+  -- what a row writes is proper
+  pub row-proper : {n : ℕ} {d : Deed} → Moves t (seenOf m t) n d → Proper m (d .write)
+  row-proper l1 = tt
+  row-proper (l2 h) = (in-t .held, refl)
+  row-proper (l3-passed q) = tt
+  row-proper (l3-turned q) = tt
+  row-proper l4 = tt
+  row-proper (l5 h) = (in-t .held, refl)
+  row-proper s1 = in-t .own
+  row-proper (s2-swapped q) = in-t .cell
+  row-proper (s2-missed q) = tt
+  row-proper (s3-took q) = (in-t .held, refl)
+  row-proper (s3-shared h q) = (in-t .held, refl)
+  row-proper (s5 h) = (in-t .held, refl)
+  row-proper (s6-took q) = (in-t .cursor, rw q refl)
+  row-proper (s6-busy q) = tt
+  row-proper (s7 h) = (in-t .held, refl)
+  row-proper (r1 h) = (in-t .held, refl)
+  row-proper (v1-good q) = tt
+  row-proper (v1-gone q) = tt
 
   pub step-keeps : (d : Deed) → effectOf t (seenOf m t) ≡ Does d → Kept (written m p (d .task) (d .write))
-  step-keeps d q = let r = moves t (seenOf m t) d q in stepped m K p hp t refl (d .task) (d .write) (row-keeps r refl) (row-inside r)
+  step-keeps d q = let r = moves t (seenOf m t) d q in stepped m K p hp t refl (d .task) (d .write) (row-keeps r refl) (row-proper r)
 
   -- a call begun changes the task's record, to one that claims, holds and owns what it did
   begun : (f : ℕ) (t′ : Task) (e : t ≡ at f) → Calm m K p hp (at f) e t′ → ((i : ℕ) → claims i (at f) + keeps i (at f) ≡ claims i t′ + keeps i t′) → Kept (written m p t′ Nothing)

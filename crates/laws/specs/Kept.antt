@@ -58,7 +58,7 @@ pub record Sound (m : Machine) : Type 0 where
 -- what every step keeps; the kept number of free nodes is the full count
 pub record Kept (m : Machine) : Type 0 where
   pub sound : Sound m
-  pub told : m .free ≡ free m
+  pub free-counted : m .free ≡ free m
   pub counted : Counted m
   pub sole : Sole m
   pub held : Held m

@@ -1,6 +1,7 @@
 -- What weighs on a node, and which nodes are in use.
 use Prim.Native.Nat.{ℕ, _+_}
 use mathlib.Core.Bool.{_&&_}
+use mathlib.Core.List.{List}
 use lib.ListN.{getD}
 use lib.Dec.{eqb, ltb}
 use Rattle.tallies.specs.Tally.{bit, tally, total}
@@ -31,9 +32,16 @@ claimers m i = tally (claims i) (m .p) (m .tasks)
 abbrev pub keepers : Machine → ℕ → ℕ
 keepers m i = tally (keeps i) (m .p) (m .tasks)
 
--- how many nodes below K are in use, and how many are free: the full counts, node by node
+-- of the first k counts, how many are above 0, and how many are 0
+abbrev pub usedIn : List ℕ → ℕ → ℕ
+usedIn counts k = total (λ i. bit (ltb 0 (getD counts i 0))) k
+
+abbrev pub freeIn : List ℕ → ℕ → ℕ
+freeIn counts k = total (λ i. bit (eqb (getD counts i 0) 0)) k
+
+-- how many nodes below K are in use, and how many are free: the full counts
 abbrev pub used : Machine → ℕ
-used m = total (λ i. bit (ltb 0 (getD (m .counts) i 0))) (m .k)
+used m = usedIn (m .counts) (m .k)
 
 abbrev pub free : Machine → ℕ
-free m = total (λ i. bit (eqb (getD (m .counts) i 0) 0)) (m .k)
+free m = freeIn (m .counts) (m .k)

@@ -8,7 +8,7 @@ use Rattle.wire.specs.Bytes.{replyOf}
 use Rattle.answers.specs.Numbers.{refusalNumber, numberOf, valueOf}
 use Rattle.cells.specs.Machine.{inRange}
 use Rattle.cells.specs.Apply.{applyOf}
-use Rattle.cells.specs.Free.{freeOf, freeValue}
+use Rattle.cells.specs.Free.{freeNodes, freeValue}
 use Rattle.runs.specs.Types.{Machine, Applied, Refusal, NoRoom, Damaged, TooLong, Report, Ran}
 use Rattle.runs.specs.Counts.{accepted, anywhere, loadsAt, stepsAt, turnedAt, swapsAt}
 
@@ -33,11 +33,11 @@ unfoldable pub repliesFrom : Machine → List (List ℕ) → List ℕ
 repliesFrom m [] = []
 repliesFrom m (e ∷ es) = replyBytes (applyOf m e) ++ cond (accepted (applyOf m e .answer)) (repliesFrom (applyOf m e .machine) es) []
 
--- the free-nodes question's answer for a record
+-- what the free-nodes question gives for a record; 0 where it is refused, as no record is that is reached from a setup
 abbrev pub freeNow : Machine → ℕ
-freeNow m = freeValue (freeOf (m .n) (m .p) (m .k) (m .free))
+freeNow m = freeValue (freeNodes m)
 
--- that answer after each entry, up to the first refused one and after it
+-- that number after each entry, up to the first refused one and its own
 unfoldable pub notesFrom : Machine → List (List ℕ) → List ℕ
 notesFrom m [] = []
 notesFrom m (e ∷ es) = freeNow (applyOf m e .machine) ∷ cond (accepted (applyOf m e .answer)) (notesFrom (applyOf m e .machine) es) []
@@ -97,10 +97,10 @@ repliesOf m s room = cond (startsOf m s room) (repliesFrom m (entriesOf s)) []
 unfoldable pub bufferOf : Machine → List ℕ → List ℕ → List ℕ
 bufferOf m s out = repliesOf m s (length out) ++ drop (length (repliesOf m s (length out))) out
 
--- a buffer with these answers from its front on, as far as it goes, and after them what it held
+-- a buffer with these numbers from its front on, as far as it goes, and after them what it held
 abbrev pub notedBy : List ℕ → List ℕ → List ℕ
 notedBy notes free = take (length free) notes ++ drop (length notes) free
 
--- the buffer for that run's answers at exit: as it was, where no entry was tried
+-- the buffer for that run's numbers at exit: as it was, where no entry was tried
 unfoldable pub notedOf : Machine → List ℕ → ℕ → List ℕ → List ℕ
 notedOf m s room free = cond (startsOf m s room) (notedBy (notesFrom m (entriesOf s)) free) free

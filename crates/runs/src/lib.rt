@@ -122,13 +122,13 @@ fn told(out: &mut [u8], i: usize, d: Decision, kind: u8, from: u8, r: Report) ->
 }
 
 // The free-nodes question, asked of a record with these numbers: the answer stands at place i, where the buffer has one.
-fn note(free: &mut [u8], i: usize, n: u8, p: u8, k: u8, kept: u8)
-    ensures { λ _. ⌜ now (free .exit) ≡ set (now (free .entry)) i (freeValue (freeOf n p k kept)) ⌝ }
+fn note(free_nodes: &mut [u8], i: usize, n: u8, p: u8, k: u8, kept: u8)
+    ensures { λ _. ⌜ now («free_nodes» .exit) ≡ set (now («free_nodes» .entry)) i (freeValue (freeOf n p k kept)) ⌝ }
 {
-    if free.len() <= i {
+    if free_nodes.len() <= i {
         return;
     }
-    free[i] = cells::free_value(cells::free_nodes(n, p, k, kept));
+    free_nodes[i] = cells::free_value(cells::free_nodes(n, p, k, kept));
 }
 
 // Where the entry that starts at `at` ends, in n bytes: a cut one ends with them.
@@ -140,9 +140,9 @@ fn entry_end(at: usize, n: usize) -> usize
 }
 
 // The entries one after the other, up to the first refused one. The record stays where it is: handing it over by value would copy it at each entry.
-fn run_entries(m: Machine, s: &[u8], out: &mut [u8], free: &mut [u8]) -> Ran
+fn run_entries(m: Machine, s: &[u8], out: &mut [u8], free_nodes: &mut [u8]) -> Ran
     requires { ⌜ (length (now s) ≤ 65530) × (8 * entriesIn (now s) ≤ length (now out)) ⌝ }
-    ensures { λ r. ⌜ (r ≡ ranFrom m (reportOf 0) (entriesOf (now (s .entry)))) × (now (out .exit) ≡ overlaid (now (out .entry)) 0 (repliesFrom m (entriesOf (now (s .entry))))) × (now (free .exit) ≡ notedBy (notesFrom m (entriesOf (now (s .entry)))) (now (free .entry))) ⌝ }
+    ensures { λ r. ⌜ (r ≡ ranFrom m (reportOf 0) (entriesOf (now (s .entry)))) × (now (out .exit) ≡ overlaid (now (out .entry)) 0 (repliesFrom m (entriesOf (now (s .entry))))) × (now («free_nodes» .exit) ≡ notedBy (notesFrom m (entriesOf (now (s .entry)))) (now («free_nodes» .entry))) ⌝ }
 {
     let n = s.len();
     let count = (n + 9) / 10;
@@ -174,7 +174,7 @@ fn run_entries(m: Machine, s: &[u8], out: &mut [u8], free: &mut [u8]) -> Ran
         let effect = d.effect;
         match effect {
             Effect::Refuses(_) => {
-                note(free, i, machine.n, machine.p, machine.k, machine.free);
+                note(free_nodes, i, machine.n, machine.p, machine.k, machine.free);
                 return Ran {
                     machine: machine,
                     report: report,
@@ -188,7 +188,8 @@ fn run_entries(m: Machine, s: &[u8], out: &mut [u8], free: &mut [u8]) -> Ran
                 cells::write_values(&mut machine.values, w);
                 cells::write_counts(&mut machine.counts, w);
                 let left = cells::write_free(machine.free, w);
-                note(free, i, machine.n, machine.p, machine.k, left);
+                // asked of the record that this entry leaves
+                note(free_nodes, i, machine.n, machine.p, machine.k, left);
                 machine.free = left;
             }
         }
@@ -210,10 +211,9 @@ fn untried(m: Machine, refusal: Refusal) -> Ran
     }
 }
 
-// A run: 22 by ranges, 23 and 21 before any entry is tried, in that order. `free` gets the number of free nodes after each entry that is tried, as far as
-// it goes.
-pub fn run_free(m: Machine, s: &[u8], out: &mut [u8], free: &mut [u8]) -> Ran
-    ensures { λ r. ⌜ (r ≡ ranOf m (now (s .entry)) (length (now (out .entry)))) × (now (out .exit) ≡ bufferOf m (now (s .entry)) (now (out .entry))) × (now (free .exit) ≡ notedOf m (now (s .entry)) (length (now (out .entry))) (now (free .entry))) ⌝ }
+// A run: 22 by ranges, 23 and 21 come before any entry, in that order. Each entry tried leaves its number of free nodes, while there is room.
+pub fn run_free(m: Machine, s: &[u8], out: &mut [u8], free_nodes: &mut [u8]) -> Ran
+    ensures { λ r. ⌜ (r ≡ ranOf m (now (s .entry)) (length (now (out .entry)))) × (now (out .exit) ≡ bufferOf m (now (s .entry)) (now (out .entry))) × (now («free_nodes» .exit) ≡ notedOf m (now (s .entry)) (length (now (out .entry))) (now («free_nodes» .entry))) ⌝ }
 {
     if !m.in_range() {
         return untried(m, Refusal::Damaged);
@@ -225,7 +225,7 @@ pub fn run_free(m: Machine, s: &[u8], out: &mut [u8], free: &mut [u8]) -> Ran
     if out.len() < 8 * ((n + 9) / 10) {
         return untried(m, Refusal::NoRoom);
     }
-    run_entries(m, s, out, free)
+    run_entries(m, s, out, free_nodes)
 }
 
 // A run whose free nodes nobody asks for.

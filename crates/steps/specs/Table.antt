@@ -1,5 +1,5 @@
--- The step table of document 01 as document 02 changes it (lowering tells what it left; validate), row by row in their order. A row goes from a
--- task's record and what it sees to its deed: the task's next record, the one place written, the reply.
+-- The step table of document 01 as document 02 changes it (validate; lowering tells what it left; free nodes are kept count of), row by row in
+-- their order. A row goes from a task's record and what it sees to its deed: the task's next record, the one place written, the reply.
 use Prim.Native.Nat.{ℕ, _+_, _-_, _%_}
 use mathlib.Core.Bool.{cond}
 use mathlib.Core.List.{List, [], _∷_}
@@ -25,11 +25,11 @@ recountedOf s v c d =
     (To (Count v d (freeAfter (s .free) c d)) d))
 
 -- the count c of node v up by 1, and the number then there; a record of P tasks is damaged where it would go past P + 1 (or past a byte, where
--- P is 255)
+-- P is 255), and where `recountedOf` says so
 unfoldable pub raisedOf : Seen → NodeNo → ℕ → Counted
 raisedOf s v c = cond (ltb (s .tasks) c) Broken (cond (eqb c 255) Broken (recountedOf s v c (c + 1)))
 
--- the count c of node v down by 1, and the number left behind; the record is damaged where c is 0
+-- the count c of node v down by 1, and the number left behind; the record is damaged where c is 0, and where `recountedOf` says so
 unfoldable pub loweredOf : Seen → NodeNo → ℕ → Counted
 loweredOf s v c = cond (eqb c 0) Broken (recountedOf s v c (c - 1))
 

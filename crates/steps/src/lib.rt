@@ -1,4 +1,4 @@
-// The step table: what one atomic step does, as data. A step looks at a few numbers, changes its own task's record and writes one place at most.
+// The step table: what one atomic step does, as data. A step looks at a few numbers, changes its own task's record and writes one place of a table at most.
 use answers::Refusal;
 use answers::Reply;
 use tasks::CellNo;
@@ -12,8 +12,7 @@ ghost use Rattle.tallies.specs.Tally.{bit};
 ghost use Rattle.tasks.specs.Phases.{storing};
 ghost use Rattle.steps.specs.Table.{after, recountedOf, raisedOf, loweredOf, does, counting, s2, s3, s6, v1, effectOf};
 
-// What a step may look at besides its task's record: the node of x, the counts of m and of the cursor's node, the value of m, P, K and how many
-// nodes are free.
+// All that a step can see but its own task's record: the node of x, the counts of m and of the cursor's node, m's value, P, K, the free nodes' number.
 pub struct Seen {
     pub here: NodeNo,
     pub held_count: u8,
@@ -24,7 +23,7 @@ pub struct Seen {
     pub free: u8,
 }
 
-// The one place of the tables that a step writes; with a count goes the number of free nodes that it leaves.
+// The one place of the tables that a step writes. `Count(v, c, f)`: node v's count becomes c, which leaves f nodes free.
 pub enum Write {
     Nothing,
     Point(CellNo, NodeNo),
@@ -32,7 +31,7 @@ pub enum Write {
     Value(NodeNo, u32),
 }
 
-// A count raised or lowered: the write that does it and the number that it leaves, or a damaged record.
+// A count that a step changes: the write that does it and the count then, or a damaged record.
 pub enum Counted {
     To(Write, u8),
     Broken,
@@ -68,7 +67,7 @@ fn free_one(count: u8) -> u16
     if count == 0 { 1 } else { 0 }
 }
 
-// The one place where the number of free nodes is kept: node v's count goes from one number to another.
+// Every write of a count is made here, and with it the number of free nodes: node v's count goes from one number to another.
 fn recounted(s: Seen, v: NodeNo, from: u8, to: u8) -> Counted
     ensures { λ r. ⌜ r ≡ recountedOf s v from to ⌝ }
 {

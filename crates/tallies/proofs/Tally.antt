@@ -94,6 +94,13 @@ module _ {A : Type 0} where
       after w zero (x ∷ l) d h = omega arith
       after w (suc i) (x ∷ l) d h = omega (arith, after w i l d (le-of-suc-le-suc h))
 
+  -- a sum over the front of a list is one over its places
+  pub tally-places : (w : A → ℕ) (n : ℕ) (l : List A) (d : A) → n ≤ length l → tally w n l ≡ total (λ i. w (getD l i d)) n
+  unfolding total
+  tally-places w zero l d h = sym (tally-none w l)
+  tally-places w (suc n) l d h =
+      ap (λ (k : ℕ). tally w k l) (sym (add-one n)) ∙ omega (arith, tally-next w n l d h, tally-places w n l d (omega arith))
+
   -- nothing stands past the end
   pub tally-past : (w : A → ℕ) (n : ℕ) (l : List A) → length l ≤ n → tally w n l ≡ tally w (length l) l
   unfolding tally
@@ -123,17 +130,6 @@ pub total-mono : (f g : ℕ → ℕ) (n : ℕ) → ((i : ℕ) → i < n → f i 
 unfolding total
 total-mono f g zero h = zero-le
 total-mono f g (suc n) h = omega (arith, h n (omega arith), total-mono f g n (λ i k. h i (omega arith)))
-
-pub total-same : (f g : ℕ → ℕ) (n : ℕ) → ((i : ℕ) → i < n → f i ≡ g i) → total f n ≡ total g n
-unfolding total
-total-same f g zero h = refl
-total-same f g (suc n) h = omega (arith, h n (omega arith), total-same f g n (λ i k. h i (omega arith)))
-
--- terms of at most 1
-pub total-most : (f : ℕ → ℕ) (n : ℕ) → ((i : ℕ) → f i ≤ 1) → total f n ≤ n
-unfolding total
-total-most f zero h = zero-le
-total-most f (suc n) h = omega (arith, h n, total-most f n h)
 
 -- the bit of an equality
 pub bit-ne : (m i : ℕ) → m ≢ i → bit (eqb m i) ≡ 0
@@ -190,20 +186,6 @@ put-each R l j a d h ra i rest =
 pub put-at : {A : Type 0} (R : A → Type 0) (l : List A) (j : ℕ) (a d : A) → j < length l → R a → (i : ℕ) → (i ≢ j → R (getD l i d)) → R (getD (set l j a) i d)
 put-at R = put-each (λ k. R)
 
--- the sum of g over a list's first n numbers, after one of them changed
-pub total-put : (g : ℕ → ℕ) (l : List ℕ) (j a n : ℕ) → j < n → j < length l
-    → total (λ i. g (getD (set l j a) i 0)) n + g (getD l j 0) ≡ total (λ i. g (getD l i 0)) n + g a
-unfolding total
-total-put g l j a zero h k = absurd (not-suc-le-zero h)
-total-put g l j a (suc n) h k =
-    elim (ℕ-discrete n j) [
-      | yes e ↦ (let same = total-same (λ i. g (getD (set l j a) i 0)) (λ i. g (getD l i 0)) n (λ i b. ap g (getD-set-other l j i a 0 (omega arith))) in
-          let here : g (getD (set l j a) n 0) ≡ g a = ap (λ (i : ℕ). g (getD (set l j a) i 0)) e ∙ ap g (getD-set-same l j a 0 k) in
-          let was : g (getD l n 0) ≡ g (getD l j 0) = ap (λ (i : ℕ). g (getD l i 0)) e in
-          omega (arith, same, here, was))
-      | no ne ↦ omega (arith, ap g (getD-set-other l j n a 0 ne), total-put g l j a n (omega arith) k)
-    ]
-
 -- what is claimed of a test is the test's outcome
 pub T→true : (b : Bool) → T b → b ≡ true
 T→true true h = refl
@@ -220,6 +202,11 @@ pub total-join : (f : ℕ → ℕ) (a b : ℕ) → total f (a + b) ≡ total f a
 unfolding total
 total-join f a zero = ap (total f) (add-zero a) ∙ omega arith
 total-join f a (suc b) = ap (total f) (add-suc a b) ∙ omega (arith, total-join f a b)
+
+pub total-same : (f g : ℕ → ℕ) (n : ℕ) → ((i : ℕ) → i < n → f i ≡ g i) → total f n ≡ total g n
+unfolding total
+total-same f g zero h = refl
+total-same f g (suc n) h = omega (arith, h n (omega arith), total-same f g n (λ i k. h i (omega arith)))
 
 pub total-front : (f : ℕ → ℕ) (a b : ℕ) → a ≤ b → total f a ≤ total f b
 total-front f a b h = let e : b ≡ a + (b - a) = omega arith in rw e (omega (arith, total-join f a (b - a)))

@@ -32,7 +32,7 @@ start-long c = record { cells = search needs; values = search needs; counts = se
 
 loop-holds : tie.Need-loop-holds Inv-loop μ-loop
 loop-holds c = let a = c .before .before .before .before in
-    rw (c .no-report .ensures) (starts (a .args .s .now) (a .args .out .now) (a .args .free .now) (a .args .m), start-long a)
+    rw (c .no-report .ensures) (starts (a .args .s .now) (a .args .out .now) (a .args .free-nodes .now) (a .args .m), start-long a)
 
 mul-at : tie.Need-mul-at Inv-loop μ-loop
 mul-at c = omega (arith, c .before .before .before .before .before .before .pre .0)
@@ -105,7 +105,7 @@ told-requires c κs = let a = begun (c .before) in
     let l = c .before .before .before .before .before .before .before .before .before .before .before .before .before .before .before .before .before .before .loop in
     let more = c .before .before .before .before .before .before .before .before .before .before .before .before .before .before .before .before .before .loop-test .taken in
     let small : l .i ≤ 6553 = omega (arith, a .pre .0, more) in
-    (fits (a .args .s .now) (a .args .out .now) (a .args .free .now) (a .args .m) (l .out) (l .free) (l .machine) (l .report) (l .i) (l .inv .0) more (a .pre .1), few-le (l .i) 6553 (l .report) small (l .inv .0 .few))
+    (fits (a .args .s .now) (a .args .out .now) (a .args .free-nodes .now) (a .args .m) (l .out) (l .free-nodes) (l .machine) (l .report) (l .i) (l .inv .0) more (a .pre .1), few-le (l .i) 6553 (l .report) small (l .inv .0 .few))
 
 enum-told : tie.Need-enum-told Inv-loop μ-loop
 enum-told c = search needs
@@ -124,7 +124,7 @@ returns c = let t = c .before .before .before .before .before .before .before .b
     let d = t .before .before in
     let a = begun d in
     let l = d .before .before .before .before .before .before .before .before .before .before .before .before .before .before .before .before .before .loop in
-    decision-stops (s d) (a .args .out .now) (a .args .free .now) (a .args .m) (l .out) (l .free) (m d) (l .report) (i d) (l .inv .0) (d .before .before .before .before .before .before .before .before .before .before .before .before .before .before .before .before .loop-test .taken) (a .pre .1)
+    decision-stops (s d) (a .args .out .now) (a .args .free-nodes .now) (a .args .m) (l .out) (l .free-nodes) (m d) (l .report) (i d) (l .inv .0) (d .before .before .before .before .before .before .before .before .before .before .before .before .before .before .before .before .loop-test .taken) (a .pre .1)
     (x d) (next d) (found d) _ (known d) _ (d .decided .ensures) _ _ _ (d .before .before .before .before .before .before .before .before .before .before .before .before .before .byte-at .ensures) (t .told .ensures .0) (t .told .ensures .1) _ (c .before .before .before .before .enum-told .given .1) _ (c .before .before .note .ensures)
 
 enum-known-effect : tie.Need-enum-known-effect Inv-loop μ-loop
@@ -166,7 +166,7 @@ loop-again c = let t = c .before .before .before .before .before .before .before
     let does = c .before .before .before .before .before .before .before .before .before .before .before .before .before .effect .given .1 in
     let own = place d ∙ named (m d) (x d) (found d) _ (known d) _ (d .decided .ensures) deed does .1 in
     let after = put-written (m d) (l .inv .1) (deed .write) (deed .task) _ _ own _ _ _ _ (c .before .before .before .before .before .before .before .before .before .write-cells .ensures) (c .before .before .before .before .before .before .before .write-values .ensures) (c .before .before .before .before .before .write-counts .ensures) (c .before .before .before .before .write-free .ensures) in (
-      decision-goes-on (s d) (a .args .out .now) (a .args .free .now) (a .args .m) (l .out) (l .free) (m d) (l .report) (i d) (l .inv .0) (d .before .before .before .before .before .before .before .before .before .before .before .before .before .before .before .before .loop-test .taken) (a .pre .1)
+      decision-goes-on (s d) (a .args .out .now) (a .args .free-nodes .now) (a .args .m) (l .out) (l .free-nodes) (m d) (l .report) (i d) (l .inv .0) (d .before .before .before .before .before .before .before .before .before .before .before .before .before .before .before .before .loop-test .taken) (a .pre .1)
           (x d) (next d) (found d) _ (known d) _ (d .decided .ensures) _ _ _ (d .before .before .before .before .before .before .before .before .before .before .before .before .before .byte-at .ensures) (t .told .ensures .0) (t .told .ensures .1) deed does (l .inv .1 .tasks) _ after _ (c .before .before .note2 .ensures),
       subst Long (sym after) (long-written (m d) _ (deed .task) (deed .write) (l .inv .1)),
     )
