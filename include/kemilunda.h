@@ -105,9 +105,10 @@ uint32_t kemilunda_run(const uint8_t *input, size_t input_size,
  *
  * FREE_NODES starts with one byte for each entry that was tried, the refused one
  * included: how many nodes are free after it. Before the first entry these are
- * all but one for each cell and one for each task. With less room FREE_NODES
- * gets the first of the bytes, which is no refusal; what it has behind them
- * stays. Where the setup is refused, or no entry is tried, all of it stays.
+ * all but one for each cell and one for each task. What FREE_NODES has behind
+ * the last of these bytes stays. It may have room for fewer: then the first ones
+ * are written, and that is no refusal. Where the setup is refused, or no entry is
+ * tried, all of it stays.
  *
  * INPUT, REPLIES, FREE_NODES and NUMBERS must not overlap.
  */

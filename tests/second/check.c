@@ -244,7 +244,8 @@ static struct machine facing(uint8_t phase, uint8_t count, uint8_t total)
     return m;
 }
 
-/* No field changes but those that the table names, and the total with 0. */
+/* No field changes but those that the table names, and the total where a count
+ * comes to 0 or leaves it. */
 static void check_lowered(uint8_t phase, uint8_t count, uint8_t total,
                           uint8_t number, uint8_t next)
 {

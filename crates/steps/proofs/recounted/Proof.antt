@@ -1,4 +1,5 @@
 -- `recounted`: the two tests that refuse, then the count with the number of free nodes. Assumes nothing.
+use Prim.Native.Nat.{_+_, _-_, _<_}
 use native.Mathlib.Omega.{arith}
 use lib.Dec.{eqb}
 use borrow.Author.Tests.{lt-ltb, le-ltb}
@@ -30,12 +31,11 @@ cast-if2 c = search needs
 returns-2 : tie.Need-returns-2
 unfolding recountedOf
 returns-2 c =
-    rw (
-      ← c .before .before .before .before .free-one .ensures,
-      ← c .before .before .before .free-one2 .ensures,
-      le-ltb _ _ (c .before .before .if1 .left),
-      lt-ltb _ _ (c .if2 .taken),
-    )
+    let more = c .before .before .before .before in
+    let less = c .before .before .before in
+    let s = more .before .before .args .s in
+    let above : s .nodes < s .free + more .free-one .result - less .free-one2 .result = c .if2 .taken in
+    rw (← more .free-one .ensures, ← less .free-one2 .ensures, le-ltb _ _ (c .before .before .if1 .left), lt-ltb _ _ above)
 
 cast-t11 : tie.Need-cast-t11
 cast-t11 c = search needs
