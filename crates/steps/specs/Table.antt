@@ -1,5 +1,5 @@
 -- The step table of document 01 as document 02 changes it (validate; lowering tells what it left; free nodes are kept count of), row by row in
--- their order. A row goes from a task's record and what it sees to its deed: the task's next record, the one place written, the reply.
+-- their order. Each row gives, for a task's record and the numbers in its sight, a deed: the next record, the one place written, the reply.
 use Prim.Native.Nat.{ℕ, _+_, _-_, _%_}
 use mathlib.Core.Bool.{cond}
 use mathlib.Core.List.{List, [], _∷_}

@@ -1,4 +1,4 @@
-// The step table: what one atomic step does, as data. A step looks at a few numbers, changes its own task's record and writes one place of a table at most.
+// The step table: what one atomic step does, as data. It reads some numbers, and changes its own task's record and one place of a table at most.
 use answers::Refusal;
 use answers::Reply;
 use tasks::CellNo;
