@@ -1,8 +1,8 @@
 /*
  * The proved step bench for C. Link target/staticlib/libkemilunda.a, which
  * `rt staticlib kemilunda` makes. It keeps no state, and asks the linker for
- * memcpy, memset, memmove and memcmp at most (tests/link/run looks). What stack
- * a call takes stands in docs/SPEED.md.
+ * memcpy, memset, memmove and memcmp at most (tests/link/run looks). A run takes
+ * some 5.5 KB of stack (docs/SPEED.md).
  *
  * Every function takes any bytes at all. What each one gives is proved; the
  * proofs are about the Rattle source, not about this file or the compiler.
