@@ -61,7 +61,7 @@ valuesAfter m w = valuesBy set w (m .values)
 abbrev pub countsAfter : Machine → Write → List ℕ
 countsAfter m w = countsBy set w (m .counts)
 
--- task p's record is t, the one place is written, the number of free nodes is kept, and nothing else changes
+-- task p's record is t, the one place is written, the number of free nodes goes with a count, and nothing else changes
 abbrev pub written : Machine → TaskNo → Task → Write → Machine
 written m p t w =
     record {
