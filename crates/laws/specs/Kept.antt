@@ -1,4 +1,5 @@
--- What every step keeps, and so what holds of every record that is reached: the counts' meaning, who may claim a node, and the ranges.
+-- What every step keeps, and so what holds of every record that is reached: the counts' meaning, who may claim a node, how many are
+-- free, and the ranges.
 use Prim.Native.Nat.{ℕ, _+_, _*_, _≤_, _<_}
 use mathlib.Core.Path.{_≡_}
 use mathlib.Core.Logic.{_≢_}

@@ -1,4 +1,4 @@
--- What weighs on a node, and which nodes are in use.
+-- What weighs on a node, and how many nodes are in use and free.
 use Prim.Native.Nat.{ℕ, _+_}
 use mathlib.Core.Bool.{_&&_}
 use mathlib.Core.List.{List}

@@ -1,4 +1,4 @@
--- A run of a whole schedule from bytes: its entries, its replies and its six numbers, built on single entries.
+-- A run of a whole schedule from bytes: its entries, its replies, its free nodes and its six numbers, built on single entries.
 use Prim.Native.Nat.{ℕ, zero, suc, _+_, _*_, _/_}
 use mathlib.Core.Bool.{Bool, cond, not, _&&_}
 use mathlib.Core.List.{List, [], _∷_, _++_}

@@ -1,4 +1,4 @@
-// A whole schedule from bytes over a machine record: one reply an entry, and the six numbers.
+// A whole schedule from bytes over a machine record: one reply an entry, the six numbers, and how many nodes are free after each entry.
 use answers::Refusal;
 use cells::Decision;
 use cells::Machine;
