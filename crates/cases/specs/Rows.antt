@@ -8,7 +8,7 @@ use Rattle.answers.specs.Numbers.{numberOf, valueOf}
 use Rattle.cells.specs.declared.Machine.{Machine}
 use Rattle.cells.specs.declared.Applied.{Applied}
 use Rattle.cells.specs.declared.SetupAnswer.{SetupAnswer}
-use Rattle.cells.specs.declared.FreeCount.{FreeCount}
+use Rattle.cells.specs.declared.free.FreeCount.{FreeCount}
 use Rattle.cells.specs.Free.{freeNodes, freeNumber, freeValue}
 use Rattle.cells.specs.Setup.{setupOf, setupNumber, setupBytes}
 use Rattle.wire.specs.Bytes.{replyOf}

@@ -67,7 +67,7 @@ few-tasks m h =
     let a = both (poolOk (m .n) (m .p) (m .k) (m .free) && every (cellOk (m .cells) (m .k)) (m .n)) (every (countOk (m .counts) (m .p)) (m .k)) h in
     let b = both (poolOk (m .n) (m .p) (m .k) (m .free)) (every (cellOk (m .cells) (m .k)) (m .n)) (a .0) in
     let c = both (sizesOk (m .n) (m .p) (m .k)) (leb (m .free) (m .k)) (b .0) in
-    sizes-bounds _ _ _ (c .0) .1
+    sizes-bounds _ _ _ (c .0) .3
 
 -- the second test counts only where the first one holds
 gated : (a b c : Bool) → (a ≡ true → b ≡ c) → (a && b) ≡ (a && c)

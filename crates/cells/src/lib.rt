@@ -1,4 +1,6 @@
 // The machine record: set up from bytes, one entry at a time, and the questions asked of it.
+pub mod free;
+
 use answers::Answer;
 use answers::Refusal;
 use entries::EntryRead;
@@ -22,8 +24,7 @@ ghost use Rattle.tallies.specs.Lists.{fillTo};
 ghost use Rattle.tasks.specs.Records.{nodeNo, noTask, idleOwning};
 ghost use Rattle.tasks.specs.Holders.{heldAmong};
 ghost use Rattle.tables.specs.Tables.{taskIn, putIn};
-ghost use Rattle.cells.specs.Machine.{seenIn, cellsBy, valuesBy, countsBy, freeBy, poolOk, tablesOk, inRange};
-ghost use Rattle.cells.specs.Free.{freeOf, freeNumber, freeValue};
+ghost use Rattle.cells.specs.Machine.{seenIn, cellsBy, valuesBy, countsBy, freeBy, tablesOk, inRange};
 ghost use Rattle.cells.specs.Apply.{decidedOf, applyOf};
 ghost use Rattle.cells.specs.Setup.{blankOf, freshOf, refusedSetup, setupOf, setupNumber, setupBytes};
 
@@ -208,21 +209,11 @@ fn seen<'a>(
     }
 }
 
-// The range test (22) of the sizes and the number of free nodes.
-fn pool_ok(n: u8, p: u8, k: u8, free: u8) -> bool
-    ensures { λ r. ⌜ r ≡ poolOk n p k free ⌝ }
-{
-    if !tables::sizes_ok(n, p, k) {
-        return false;
-    }
-    free <= k
-}
-
 // The range test (22) of all but the task records.
 fn tables_ok<'a>(n: u8, p: u8, k: u8, free: u8, cells: &'a [u8], counts: &'a [u8]) -> bool
     ensures { λ r. ⌜ r ≡ tablesOk n p k free (now (cells .entry)) (now (counts .entry)) ⌝ }
 {
-    if !pool_ok(n, p, k, free) {
+    if !free::pool_ok(n, p, k, free) {
         return false;
     }
     if !tables::cells_ok(cells, n, k) {
@@ -319,40 +310,6 @@ pub fn write_free(free: u8, w: Write) -> u8
         Write::Point(_, _) => free,
         Write::Count(_, _, left) => left,
         Write::Value(_, _) => free,
-    }
-}
-
-// The answer to the free-nodes question; the refusal is number 22.
-pub enum FreeCount {
-    Free(u8),
-    Refused,
-}
-
-// The free-nodes question, handed four numbers of a record and none of its tables: it may be asked after every entry.
-pub fn free_nodes(n: u8, p: u8, k: u8, free: u8) -> FreeCount
-    ensures { λ r. ⌜ r ≡ freeOf n p k free ⌝ }
-{
-    if !pool_ok(n, p, k, free) {
-        return FreeCount::Refused;
-    }
-    FreeCount::Free(free)
-}
-
-pub fn free_number(f: FreeCount) -> u8
-    ensures { λ r. ⌜ r ≡ freeNumber f ⌝ }
-{
-    match f {
-        FreeCount::Free(_) => 0,
-        FreeCount::Refused => answers::refusal_number(Refusal::Damaged),
-    }
-}
-
-pub fn free_value(f: FreeCount) -> u8
-    ensures { λ r. ⌜ r ≡ freeValue f ⌝ }
-{
-    match f {
-        FreeCount::Free(n) => n,
-        FreeCount::Refused => 0,
     }
 }
 

@@ -3,7 +3,7 @@ use crate::lines;
 
 fn asked(n: u8, p: u8, k: u8, free: u8) {
     lines::sizes_and_free(n, p, k, free);
-    lines::question(cells::free_nodes(n, p, k, free));
+    lines::question(cells::free::free_nodes(n, p, k, free));
 }
 
 pub(crate) fn numbers() {

@@ -1,6 +1,6 @@
 // The parts of a line. They stand apart from the records: a text in a function that has a record makes its check long.
 use answers::Answer;
-use cells::FreeCount;
+use cells::free::FreeCount;
 use runs::Report;
 
 // A word, then a number.
@@ -90,8 +90,8 @@ pub(crate) fn report(r: Report) {
 // The answer to the free-nodes question: number, value.
 pub(crate) fn question(f: FreeCount) {
     io::write_all(1, b": question");
-    number(cells::free_number(f) as u64);
-    number(cells::free_value(f) as u64);
+    number(cells::free::free_number(f) as u64);
+    number(cells::free::free_value(f) as u64);
     io::write_all(1, b"\n");
 }
 

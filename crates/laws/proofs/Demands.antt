@@ -10,7 +10,7 @@ use Rattle.tables.specs.Tables.{valueGiven}
 use Rattle.cells.specs.Machine.{seenOf, inRange}
 use Rattle.cells.specs.Apply.{applyOf}
 use Rattle.cells.specs.Setup.{blankOf, setupOf}
-use Rattle.cells.specs.declared.FreeCount.the-variants.{Free}
+use Rattle.cells.specs.declared.free.FreeCount.the-variants.{Free}
 use Rattle.cells.specs.Free.{freeNodes}
 use Rattle.runs.specs.Counts.{accepted, taskOf, anywhere, loadsAt, stepsAt, turnedAt, swapsAt}
 use Rattle.runs.specs.Run.{entriesIn, entriesOf, replyBytes, repliesOf, untriedOf, ranOf, bufferOf, notedOf}

@@ -8,7 +8,7 @@ use mathlib.Core.List.{List, [], _∷_}
 use lib.ListN.{length, getD, take, drop, length-append, length-take, length-drop, List·getD-append, List·getD-eq-default}
 use lib.Seq.{getD-append-add, getD-drop, getD-take}
 use borrow.Author.Tests.{le-leb}
-use Rattle.cells.specs.declared.FreeCount.the-variants.{Free}
+use Rattle.cells.specs.declared.free.FreeCount.the-variants.{Free}
 use Rattle.cells.specs.Apply.{applyOf}
 use Rattle.cells.specs.Free.{freeOf, freeNodes, freeValue}
 use Rattle.runs.specs.Counts.{accepted}

@@ -3,19 +3,19 @@ use Prim.Native.Nat.{ℕ, _+_, _-_, _*_, _≤_, _<_}
 use native.Mathlib.Omega.{arith}
 use native.Mathlib.Decide.{decLt}
 use mathlib.Core.Path.{_≡_, refl, sym, ap, _∙_}
-use mathlib.Core.Bool.{true, not, _&&_}
+use mathlib.Core.Bool.{true, not}
 use mathlib.Core.List.{List}
 use lib.Dec.{eqb, leb, ltb}
 use lib.ListN.{length, getD, replicate, getD-replicate}
-use borrow.Author.Tests.{leb-true, le-leb, lt-leb, lt-ltb, le-ltb, not-false}
-use Rattle.tallies.specs.Lists.{within}
+use borrow.Author.Tests.{le-leb, lt-leb, lt-ltb, le-ltb, not-false}
 use Rattle.tallies.specs.Tally.{bit, total}
-use Rattle.tallies.proofs.Lists.{within-bounds, both, fill-length, fill-at, fill-past}
+use Rattle.tallies.proofs.Lists.{fill-length, fill-at, fill-past}
 use Rattle.tallies.proofs.Tally.{bit-le, tally-fill, total-at, total-join, total-same, total-split, total-zero}
 use Rattle.wire.specs.Bytes.{setupMark, marked}
 use Rattle.tasks.specs.Records.{nodeNo, noTask, idleOwning}
 use Rattle.tasks.specs.Holders.{keeps}
 use Rattle.tables.specs.Tables.{sizesOk, valueGiven}
+use Rattle.tables.proofs.Laws.{sizes-bounds}
 use Rattle.cells.specs.Setup.{blankOf, freshOf, setupOf}
 use Rattle.figure1.specs.Histories.{start}
 use Rattle.laws.specs.Types.{Refusal, Sizes as Bad, NotZero, WrongMark, TooShort, Task, Machine, SetUp, Ready, NotSetUp}
@@ -34,14 +34,7 @@ pub record Sizes (n p k : ℕ) : Type 0 where
   pub nodes : k ≤ 128
 
 sizes : (n p k : ℕ) → sizesOk n p k ≡ true → Sizes n p k
-unfolding sizesOk
-sizes n p k h =
-    let a = both (within 1 64 n && within 1 16 p && leb (n + 2 * p) k) (leb k 128) h in
-    let b = both (within 1 64 n && within 1 16 p) (leb (n + 2 * p) k) (a .0) in
-    let c = both (within 1 64 n) (within 1 16 p) (b .0) in
-    let cells = within-bounds 1 64 n (c .0) in
-    let tasks = within-bounds 1 16 p (c .1) in
-    record { a-cell = cells .0; cells = cells .1; a-task = tasks .0; tasks = tasks .1; room = leb-true _ _ (b .1); nodes = leb-true _ _ (a .1) }
+sizes n p k h = let z = sizes-bounds n p k h in record { a-cell = z .0; cells = z .1; a-task = z .2; tasks = z .3; room = z .4; nodes = z .5 }
 
 module _ (n p k : ℕ) (s : List ℕ) (z : Sizes n p k) where
   abbrev fresh : Machine

@@ -128,7 +128,7 @@ fn note(free_nodes: &mut [u8], i: usize, n: u8, p: u8, k: u8, kept: u8)
     if free_nodes.len() <= i {
         return;
     }
-    free_nodes[i] = cells::free_value(cells::free_nodes(n, p, k, kept));
+    free_nodes[i] = cells::free::free_value(cells::free::free_nodes(n, p, k, kept));
 }
 
 // Where the entry that starts at `at` ends, in n bytes: a cut one ends with them.

@@ -38,10 +38,12 @@ pub put-more : (n : ℕ) (f : ℕ → ℕ) (i : ℕ) (l : List ℕ) → i < n �
 put-more n f i l h = put-below n (fillTo f i l) i (f i) h ∙ fill-more f i l
 
 -- what the sizes test tells
-pub sizes-bounds : (n p k : ℕ) → sizesOk n p k ≡ true → (n ≤ 64) × (p ≤ 16) × (n + 2 * p ≤ k)
+pub sizes-bounds : (n p k : ℕ) → sizesOk n p k ≡ true → (0 < n) × (n ≤ 64) × (0 < p) × (p ≤ 16) × (n + 2 * p ≤ k) × (k ≤ 128)
 unfolding sizesOk
 sizes-bounds n p k h =
     let a = both (within 1 64 n && within 1 16 p && leb (n + 2 * p) k) (leb k 128) h in
     let b = both (within 1 64 n && within 1 16 p) (leb (n + 2 * p) k) (a .0) in
     let c = both (within 1 64 n) (within 1 16 p) (b .0) in
-    (within-bounds 1 64 n (c .0) .1, within-bounds 1 16 p (c .1) .1, leb-true (n + 2 * p) k (b .1))
+    let cells = within-bounds 1 64 n (c .0) in
+    let tasks = within-bounds 1 16 p (c .1) in
+    (cells .0, cells .1, tasks .0, tasks .1, leb-true (n + 2 * p) k (b .1), leb-true k 128 (a .1))

@@ -67,7 +67,7 @@ returns-5 c = let d = c .before .before .before .before .before .before .before 
     rw (c .refused-setup5 .ensures, le-ltb _ 6 (d .before .before .if1 .left), sym (d .before .starts-with .ensures) ∙ not-false _ (d .if2 .left), eq-eqb _ 0 (c .before .before .before .before .before .before .before .before .if3 .left), sym (c .before .before .before .before .sizes-ok .ensures) ∙ not-false _ (c .before .before .before .if4 .left), ← c .before .before .setup-len .ensures, lt-ltb _ _ (c .before .if5 .taken))
 
 fresh-requires : tie.Need-fresh-requires
-fresh-requires c κs = sizes-bounds _ _ _ (sym (c .before .before .before .sizes-ok .ensures) ∙ not-false _ (c .before .before .if4 .left))
+fresh-requires c κs = let z = sizes-bounds _ _ _ (sym (c .before .before .before .sizes-ok .ensures) ∙ not-false _ (c .before .before .if4 .left)) in (z .1, z .3, z .4)
 
 returns-6 : tie.Need-returns-6
 unfolding setupOf

@@ -2,8 +2,8 @@
 use mathlib.Core.Path.{sym, _∙_}
 use borrow.Author.Tests.{not-true, not-false}
 use borrow.Author.Needs.{needs}
-use Rattle.cells.proofs.pool_ok.Statement.{statement}
-use Rattle.cells.proofs.pool_ok.Tie as tie
+use Rattle.cells.proofs.free.pool_ok.Statement.{statement}
+use Rattle.cells.proofs.free.pool_ok.Tie as tie
 
 sizes-ok-requires : tie.Need-sizes-ok-requires
 sizes-ok-requires c κs = search needs

@@ -3,8 +3,8 @@ use mathlib.Core.Path.{sym, _∙_}
 use borrow.Author.Tests.{not-true, not-false}
 use Rattle.cells.specs.Free.{freeOf}
 use borrow.Author.Needs.{needs}
-use Rattle.cells.proofs.free_nodes.Statement.{statement}
-use Rattle.cells.proofs.free_nodes.Tie as tie
+use Rattle.cells.proofs.free.free_nodes.Statement.{statement}
+use Rattle.cells.proofs.free.free_nodes.Tie as tie
 
 pool-ok-requires : tie.Need-pool-ok-requires
 pool-ok-requires c κs = search needs
