@@ -117,6 +117,50 @@ uint32_t kemilunda_run_free(const uint8_t *input, size_t input_size,
                             uint8_t *free_nodes, size_t free_nodes_size,
                             uint32_t numbers[KEMILUNDA_NUMBERS]);
 
+/*
+ * A schedule may be written as text: a line for each entry with its task, kind,
+ * cell and value as decimal numbers, such as 1,2,0,9 for task 1 that stores 9 to
+ * cell 0. One comma stands between two numbers, one newline (0A) behind the last,
+ * and there is nothing else: no spaces, no signs, and a 0 in front only where the
+ * number is 0. Each of the first three is 255 or less, the value 4294967295 or
+ * less. No machine is asked whether such an entry would be taken.
+ *
+ * Both functions give 0, with the number of bytes that they wrote in WRITTEN, or
+ * else a refusal. A refusal leaves the output and WRITTEN as they were. Where
+ * they write, the output's bytes behind the last one written stay. What comes out
+ * of one goes through the other, and gives what the first was handed. No bytes at
+ * all are a schedule of no entries. Of several faults the first of these counts:
+ *
+ *   23  more than 6,553 newlines to import, or 65,530 bytes to export
+ *
+ * then what the first bad line has, if there is one:
+ *
+ *   30  no line as above; so is one without its newline, at the end of the text
+ *   31  a line as above, but a number in it is too large, by however much
+ *
+ * or the first bad entry:
+ *
+ *   20  fewer than 10 bytes are left
+ *   19  it doesn't begin with 45 4E
+ *   15  its sixth byte is not zero
+ *
+ * and with no such line or entry:
+ *
+ *   32  there is less room for the output than all of it takes
+ *
+ * Entries take 10 bytes for each line. A line takes 23 bytes at most, so 150,719
+ * bytes are room enough for any text. Input, output and WRITTEN must not overlap.
+ */
+
+/* The entries that TEXT has lines for. */
+uint32_t kemilunda_import(const uint8_t *text, size_t text_size,
+                          uint8_t *entries, size_t entries_size,
+                          size_t *written);
+
+/* The lines for ENTRIES. */
+uint32_t kemilunda_export(const uint8_t *entries, size_t entries_size,
+                          uint8_t *text, size_t text_size, size_t *written);
+
 #ifdef __cplusplus
 }
 #endif

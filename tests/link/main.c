@@ -2,8 +2,8 @@
  * What a C program has to do to use the proved step bench: one header, one
  * archive, buffers of its own.  Prints document 01's case 3 from its replies,
  * what becomes of a setup and of a reply buffer that are refused, what a
- * validate in place of the store finds, and how many nodes are free after each
- * entry of cases 3 and 10.
+ * validate in place of the store finds, how many nodes are free after each entry
+ * of cases 3 and 10, and case 3's schedule as text.
  */
 #include <kemilunda.h>
 #include <stdio.h>
@@ -13,12 +13,16 @@ enum {
     ENTRIES = 9,
     REPLY = 8,
     ROOM = REPLY * ENTRIES,
+    SETUP = 10, /* bytes, those of a setup with one cell */
+    LINE = 23, /* the most bytes that a line has */
     MOST = 22, /* entries, those of case 10 */
     POOL = 4, /* where the size of the pool stands in a setup */
     STORE = 60, /* where the store's entry begins */
     KIND = 3,
     VALUE = 6,
-    UNTOUCHED = 0xAA /* no number of free nodes: there are 128 at most */
+    /* no number of free nodes (128 at most), no byte of case 3's entries or replies */
+    UNTOUCHED = 0xAA,
+    NO_LENGTH = 77 /* nothing here is so long */
 };
 
 static const uint8_t CASE_3[] = {
@@ -70,12 +74,12 @@ static void print_numbers(const uint32_t numbers[KEMILUNDA_NUMBERS])
            (unsigned long)numbers[KEMILUNDA_SWAPS]);
 }
 
-static size_t bytes_touched(const uint8_t *replies)
+static size_t bytes_touched(const uint8_t *bytes, size_t size)
 {
     size_t touched = 0;
 
-    for (size_t i = 0; i < ROOM; i++)
-        touched += replies[i] != UNTOUCHED;
+    for (size_t i = 0; i < size; i++)
+        touched += bytes[i] != UNTOUCHED;
     return touched;
 }
 
@@ -95,6 +99,35 @@ static void print_free(const uint8_t *input, size_t size, size_t room)
             printf(" %u", free_nodes[i]);
     printf("\n");
     print_numbers(numbers);
+}
+
+/* Case 3's schedule to text and back; two refusals leave the output and its length. */
+static void print_text(void)
+{
+    const uint8_t *entries = CASE_3 + SETUP;
+    const size_t size = sizeof CASE_3 - SETUP;
+    uint8_t text[LINE * ENTRIES], back[sizeof CASE_3 - SETUP];
+    size_t length = NO_LENGTH, written = NO_LENGTH;
+    unsigned long result;
+
+    memset(back, UNTOUCHED, sizeof back);
+    result = kemilunda_export(entries, size, text, sizeof text, &length);
+    printf("export %lu, of %lu bytes\n%.*s", result, (unsigned long)length,
+           (int)length, (const char *)text);
+
+    /* the last line isn't closed */
+    result = kemilunda_import(text, length - 1, back, sizeof back, &written);
+    printf("import %lu, %zu bytes written, length %zu\n", result,
+           bytes_touched(back, sizeof back), written);
+    /* the room is one byte short */
+    result = kemilunda_import(text, length, back, sizeof back - 1, &written);
+    printf("import %lu, %zu bytes written, length %zu\n", result,
+           bytes_touched(back, sizeof back), written);
+
+    result = kemilunda_import(text, length, back, sizeof back, &written);
+    printf("import %lu, %zu bytes written, length %zu: %s\n", result,
+           bytes_touched(back, sizeof back), written,
+           memcmp(back, entries, size) == 0 ? "the same entries" : "others");
 }
 
 int main(void)
@@ -123,7 +156,7 @@ int main(void)
            kemilunda_setup_bytes(input, sizeof input));
     printf("run %lu\n", (unsigned long)kemilunda_run(input, sizeof input, replies,
                                                      sizeof replies, numbers));
-    printf("%zu bytes of replies\n", bytes_touched(replies));
+    printf("%zu bytes of replies\n", bytes_touched(replies, sizeof replies));
     print_numbers(numbers);
 
     /* the reply buffer is one byte short: the numbers say why nothing ran */
@@ -131,7 +164,7 @@ int main(void)
     printf("room for %d bytes: run %lu\n", ROOM - 1,
            (unsigned long)kemilunda_run(input, sizeof input, replies, ROOM - 1,
                                         numbers));
-    printf("%zu bytes of replies\n", bytes_touched(replies));
+    printf("%zu bytes of replies\n", bytes_touched(replies, sizeof replies));
     print_numbers(numbers);
 
     /* good at its first go; at the second there is no step to make */
@@ -152,5 +185,7 @@ int main(void)
     print_free(CASE_10, sizeof CASE_10, MOST);
     printf("room for 18\n"); /* fewer numbers, the same run */
     print_free(CASE_10, sizeof CASE_10, 18);
+    printf("case 3 as text\n");
+    print_text();
     return 0;
 }

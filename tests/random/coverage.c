@@ -1,5 +1,6 @@
 #include "coverage.h"
 
+#include "driver.h"
 #include "readable.h"
 
 #include <string.h>
@@ -374,22 +375,6 @@ static void print_depth(FILE *out, const struct coverage *c)
     fprintf(out, "  checks passed on a node that had left and come back %lu\n", c->came_back);
     fprintf(out, "  stores lost to an equal value %lu\n", c->lost_equal);
     fprintf(out, "  most tasks busy at once %lu\n", c->most_busy);
-}
-
-unsigned coverage_rows(FILE *out, const char *thing, const struct row *rows,
-                       size_t count)
-{
-    unsigned never = 0;
-
-    fprintf(out, "%ss:\n", thing);
-    for (size_t i = 0; i < count; i++) {
-        fprintf(out, "  %-42s %9lu\n", rows[i].what, rows[i].met);
-        if (rows[i].met == 0) {
-            fprintf(out, "never met: %s, %s\n", thing, rows[i].what);
-            never++;
-        }
-    }
-    return never;
 }
 
 static unsigned print_stores(FILE *out, const struct coverage *c)

@@ -71,14 +71,4 @@ void cover(struct coverage *c, const uint8_t *input, size_t length);
  */
 unsigned coverage_print(FILE *out, const struct coverage *c);
 
-/* Something that has to be met at least once. */
-struct row {
-    const char *what;
-    unsigned long met;
-};
-
-/* A table of such things under the name of what they are about, in the same way. */
-unsigned coverage_rows(FILE *out, const char *thing, const struct row *rows,
-                       size_t count);
-
 #endif

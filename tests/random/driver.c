@@ -49,3 +49,19 @@ void keep_input(const char *dir, uint64_t seed, const uint8_t *input,
         give_up(path);
     printf("  input kept in %s\n", path);
 }
+
+unsigned coverage_rows(FILE *out, const char *thing, const struct row *rows,
+                       size_t count)
+{
+    unsigned never = 0;
+
+    fprintf(out, "%ss:\n", thing);
+    for (size_t i = 0; i < count; i++) {
+        fprintf(out, "  %-42s %9lu\n", rows[i].what, rows[i].met);
+        if (rows[i].met == 0) {
+            fprintf(out, "never met: %s, %s\n", thing, rows[i].what);
+            never++;
+        }
+    }
+    return never;
+}

@@ -1,29 +1,11 @@
 #include "bench.h"
 
+#include "bytes.h"
+
 #include <string.h>
 
 static const uint8_t SETUP_MARK[2] = { 0x53, 0x55 };
-static const uint8_t ENTRY_MARK[2] = { 0x45, 0x4E };
 static const uint8_t REPLY_MARK[2] = { 0x41, 0x4E };
-
-static uint32_t read32(const uint8_t *bytes)
-{
-    return (uint32_t)bytes[0] | (uint32_t)bytes[1] << 8 |
-           (uint32_t)bytes[2] << 16 | (uint32_t)bytes[3] << 24;
-}
-
-static void write32(uint8_t *bytes, uint32_t value)
-{
-    bytes[0] = (uint8_t)value;
-    bytes[1] = (uint8_t)(value >> 8);
-    bytes[2] = (uint8_t)(value >> 16);
-    bytes[3] = (uint8_t)(value >> 24);
-}
-
-static bool has_mark(const uint8_t *bytes, const uint8_t mark[2])
-{
-    return bytes[0] == mark[0] && bytes[1] == mark[1];
-}
 
 static bool sizes_allowed(unsigned cells, unsigned tasks, unsigned nodes)
 {

@@ -7,20 +7,9 @@
  */
 #include "bench.h"
 #include "chance.h"
+#include "check.h"
 
 #include <string.h>
-
-static unsigned failed;
-
-#define CHECK(what) check((what), #what, __LINE__)
-
-static void check(bool holds, const char *what, int line)
-{
-    if (holds)
-        return;
-    printf("check: line %d: not so: %s\n", line, what);
-    failed++;
-}
 
 /* The value is 7 in every cell. */
 static struct machine fresh(uint8_t cells, uint8_t tasks, uint8_t nodes)

@@ -1,6 +1,6 @@
 -- Number and value of each case of an answer, by documents 01 and 02. (24 belongs to the holders question, in the crate tasks.)
 use Prim.Native.Nat.{ℕ}
-use Rattle.answers.specs.Types.{Reply, Moved, Loaded, Took, Lost, Released, Good, Gone, Refusal, Sizes, NoTask, NoKind, NoCell, NotZero, NotNow, NoStep, OtherCell, WrongMark, TooShort, NoRoom, Damaged, TooLong, Answer, Replied, Refused}
+use Rattle.answers.specs.Types.{Reply, Moved, Loaded, Took, Lost, Released, Good, Gone, Refusal, Sizes, NoTask, NoKind, NoCell, NotZero, NotNow, NoStep, OtherCell, WrongMark, TooShort, NoRoom, Damaged, TooLong, NotALine, TooLarge, OutputShort, Answer, Replied, Refused}
 
 abbrev pub replyNumber : Reply → ℕ
 replyNumber Moved = 0  -- begun or moved
@@ -34,7 +34,10 @@ refusalNumber WrongMark = 19  -- wrong mark
 refusalNumber TooShort = 20  -- fewer bytes left than the record needs
 refusalNumber NoRoom = 21  -- reply buffer too short for the schedule
 refusalNumber Damaged = 22  -- machine record damaged
-refusalNumber TooLong = 23  -- schedule longer than 65,530 bytes
+refusalNumber TooLong = 23  -- schedule longer than 65,530 bytes, or text with more than 6,553 newlines
+refusalNumber NotALine = 30  -- text: a line without a line's form
+refusalNumber TooLarge = 31  -- text: a number too large for its place
+refusalNumber OutputShort = 32  -- text: output buffer too short
 
 abbrev pub numberOf : Answer → ℕ
 numberOf (Replied r) = replyNumber r

@@ -28,6 +28,9 @@ pub enum Refusal {
     NoRoom,
     Damaged,
     TooLong,
+    NotALine,
+    TooLarge,
+    OutputShort,
 }
 
 pub enum Answer {
@@ -80,6 +83,9 @@ pub fn refusal_number(r: Refusal) -> u8
         Refusal::NoRoom => 21,
         Refusal::Damaged => 22,
         Refusal::TooLong => 23,
+        Refusal::NotALine => 30,
+        Refusal::TooLarge => 31,
+        Refusal::OutputShort => 32,
     }
 }
 

@@ -2,10 +2,12 @@
 use Prim.Native.Nat.{ℕ}
 use mathlib.Core.List.{List, [], _∷_, _++_}
 use lib.ListN.{replicate}
+use Rattle.wire.specs.Bytes.{entryMark, replyMark}
+use Rattle.texts.specs.Line.{comma, newline, joined}
 use Rattle.laws.specs.Bytes.{setup, entry, go, load, store, release, validate}
 use Rattle.laws.specs.Small.{small}
 use Rattle.faults.specs.Benches.{mended, printed}
-use Rattle.cases.specs.Rows.{Row, sets, enters, runs, gives, counts, frees, moves, loads, stores, validates, asking}
+use Rattle.cases.specs.Rows.{Row, sets, enters, runs, gives, counts, frees, imports, exports, moves, loads, stores, validates, asking, spelt}
 
 -- n values of 7
 abbrev pub sevens : ℕ → List ℕ
@@ -116,4 +118,34 @@ cases =
     ∷ gives (store 0 0 8) 0 0 0 ∷ moves 0 2 ++ gives (go 0) 3 0 0 ∷ counts (0 ∷ 1 ∷ 1 ∷ 1 ∷ 1 ∷ 0 ∷ 0 ∷ []) ∷ frees 3
     ∷ moves 2 1 ++ counts (1 ∷ 1 ∷ 1 ∷ 1 ∷ 1 ∷ 0 ∷ 0 ∷ []) ∷ frees 2
     ∷ moves 2 1 ++ frees 2
-    ∷ moves 2 1 ++ counts (0 ∷ 1 ∷ 1 ∷ 1 ∷ 1 ∷ 0 ∷ 0 ∷ []) ∷ frees 3 ∷ []) ∷ []
+    ∷ moves 2 1 ++ counts (0 ∷ 1 ∷ 1 ∷ 1 ∷ 1 ∷ 0 ∷ 0 ∷ []) ∷ frees 3 ∷ []) ∷
+    -- Item 4. a line becomes its entry's ten bytes, and what stands behind them in the buffer stays; the largest numbers; and no line at all
+    imports 12 (joined (spelt (1 ∷ [])) (spelt (2 ∷ [])) (spelt (0 ∷ [])) (spelt (9 ∷ []))) 0 (store 1 0 9) ∷
+    imports 10 (joined (spelt (2 ∷ 5 ∷ 5 ∷ [])) (spelt (2 ∷ 5 ∷ 4 ∷ [])) (spelt (2 ∷ 5 ∷ 3 ∷ [])) (spelt (4 ∷ 2 ∷ 9 ∷ 4 ∷ 9 ∷ 6 ∷ 7 ∷ 2 ∷ 9 ∷ 5 ∷ []))) 0
+    (entryMark ++ 255 ∷ 254 ∷ 253 ∷ 0 ∷ 255 ∷ 255 ∷ 255 ∷ 255 ∷ []) ∷
+    imports 1 [] 0 [] ∷
+    -- a number too large is 31, by one or by many digits; form goes before size in a line, and an earlier line before a later one
+    imports 0 (joined (spelt (2 ∷ 5 ∷ 6 ∷ [])) (spelt (0 ∷ [])) (spelt (0 ∷ [])) (spelt (0 ∷ []))) 31 [] ∷
+    imports 0 (joined (spelt (0 ∷ [])) (spelt (0 ∷ [])) (spelt (0 ∷ [])) (spelt (4 ∷ 2 ∷ 9 ∷ 4 ∷ 9 ∷ 6 ∷ 7 ∷ 2 ∷ 9 ∷ 6 ∷ []))) 31 [] ∷
+    imports 0 (joined (spelt (0 ∷ [])) (spelt (0 ∷ [])) (spelt (replicate 50 1)) (spelt (0 ∷ []))) 31 [] ∷
+    imports 0 (joined (spelt (2 ∷ 5 ∷ 6 ∷ [])) (spelt (0 ∷ [])) (spelt (0 ∷ [])) (spelt (0 ∷ 0 ∷ []))) 30 [] ∷
+    imports 0 (joined (spelt (2 ∷ 5 ∷ 6 ∷ [])) (spelt (0 ∷ [])) (spelt (0 ∷ [])) (spelt (0 ∷ [])) ++ newline ∷ []) 31 [] ∷
+    imports 0 (newline ∷ joined (spelt (2 ∷ 5 ∷ 6 ∷ [])) (spelt (0 ∷ [])) (spelt (0 ∷ [])) (spelt (0 ∷ []))) 30 [] ∷
+    -- 30: no number, a fifth one, a space, a last line that is not closed, be a number in it too large
+    imports 0 (joined (spelt (0 ∷ [])) [] (spelt (0 ∷ [])) (spelt (0 ∷ []))) 30 [] ∷
+    imports 0 (joined (spelt (0 ∷ [])) (spelt (0 ∷ [])) (spelt (0 ∷ [])) (spelt (0 ∷ []) ++ comma ∷ spelt (0 ∷ []))) 30 [] ∷
+    imports 0 (joined (0x20 ∷ spelt (0 ∷ [])) (spelt (0 ∷ [])) (spelt (0 ∷ [])) (spelt (0 ∷ []))) 30 [] ∷
+    imports 0 (spelt (2 ∷ 5 ∷ 6 ∷ []) ++ comma ∷ spelt (0 ∷ []) ++ comma ∷ spelt (0 ∷ []) ++ comma ∷ spelt (0 ∷ [])) 30 [] ∷
+    -- 32 comes last, and writes nothing
+    imports 9 (joined (spelt (1 ∷ [])) (spelt (2 ∷ [])) (spelt (0 ∷ [])) (spelt (9 ∷ []))) 32 [] ∷
+    -- an entry becomes its line; a kind that there is not does too
+    exports 9 (store 1 0 9) 0 (joined (spelt (1 ∷ [])) (spelt (2 ∷ [])) (spelt (0 ∷ [])) (spelt (9 ∷ []))) ∷
+    exports 24 (entry 200 100 10 256 ++ go 7) 0
+    (joined (spelt (2 ∷ 0 ∷ 0 ∷ [])) (spelt (1 ∷ 0 ∷ 0 ∷ [])) (spelt (1 ∷ 0 ∷ [])) (spelt (2 ∷ 5 ∷ 6 ∷ []))
+    ++ joined (spelt (7 ∷ [])) (spelt (0 ∷ [])) (spelt (0 ∷ [])) (spelt (0 ∷ []))) ∷
+    exports 1 [] 0 [] ∷
+    -- the first bad entry decides: cut, then its mark, then its sixth byte; 32 comes last, and writes nothing
+    exports 0 (go 0 ++ 0 ∷ []) 20 [] ∷
+    exports 0 (replyMark ++ 0 ∷ 0 ∷ 0 ∷ 1 ∷ 0 ∷ 0 ∷ 0 ∷ 0 ∷ 0 ∷ []) 19 [] ∷
+    exports 0 (entryMark ++ 0 ∷ 0 ∷ 0 ∷ 1 ∷ 0 ∷ 0 ∷ 0 ∷ 0 ∷ 0 ∷ []) 15 [] ∷
+    exports 7 (store 1 0 9) 32 [] ∷ []

@@ -1,3 +1,4 @@
 pub mod Types
 pub mod Entry
+pub mod Schedule
 pub mod Order

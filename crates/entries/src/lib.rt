@@ -10,7 +10,8 @@ use tasks::CellNo;
 use tasks::Task;
 use tasks::TaskNo;
 ghost use mathlib.Core.Path.{_≡_};
-ghost use Rattle.entries.specs.Entry.{entryOf, nonzero, outside};
+ghost use Rattle.wire.specs.Bytes.{fitted};
+ghost use Rattle.entries.specs.Entry.{entryOf, entryBytes, nonzero, outside};
 ghost use Rattle.entries.specs.Order.{begins, loadOf, storeOf, linkedCallOf, callOf, orderOf};
 
 pub struct Entry {
@@ -44,6 +45,21 @@ pub fn read_entry(s: &[u8]) -> EntryRead
         spare: s[5],
         value: y,
     })
+}
+
+// An entry's ten bytes from place `at` on; nothing where there is no room for them.
+pub fn put_entry(out: &mut [u8], at: usize, e: Entry)
+    ensures { λ _. ⌜ now (out .exit) ≡ fitted (now (out .entry)) at (entryBytes e) ⌝ }
+{
+    if !wire::has_room(out.len(), at, 10) {
+        return;
+    }
+    wire::put_mark(out, at, wire::ENTRY);
+    out[at + 2] = e.task.0;
+    out[at + 3] = e.kind;
+    out[at + 4] = e.cell.0;
+    out[at + 5] = e.spare;
+    wire::put_word(out, at + 6, e.value);
 }
 
 // Whether a byte that must be zero isn't (15).

@@ -6,7 +6,7 @@ use mathlib.Core.List.{List}
 use lib.Dec.{eqb, ltb}
 use lib.ListN.{List·getD-map}
 use borrow.Author.Tests.{lt-leb, ltb-true, eqb-true, not-true}
-use Rattle.tallies.proofs.Lists.{both}
+use Rattle.tallies.proofs.Lists.{both, by-test}
 use Rattle.steps.specs.Table.{rows, noPhase, effectOf}
 use Rattle.entries.specs.declared.Entry.{Entry}
 use Rattle.entries.specs.declared.EntryRead.{EntryRead}
@@ -18,7 +18,6 @@ use Rattle.cells.specs.declared.Machine.{Machine}
 use Rattle.cells.specs.declared.Applied.{Applied}
 use Rattle.cells.specs.Machine.{seenOf, carriedOf, inRange}
 use Rattle.cells.specs.Apply.{judgedOf, decisionOf, applyOf}
-use Rattle.laws.proofs.Phases.{by-test}
 use Rattle.faults.specs.Benches.{asWritten, table, stepBy, goes, readBy, applyBy}
 
 -- what the order of refusals makes of an entry

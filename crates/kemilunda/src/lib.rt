@@ -2,10 +2,13 @@
 use cells::Machine;
 use cells::SetupAnswer;
 use runs::Report;
+use texts::TextAnswer;
 ghost use mathlib.Core.Path.{_≡_};
 ghost use lib.ListN.{length};
 ghost use Rattle.runs.specs.Run.{sixOf};
-ghost use Rattle.kemilunda.specs.Exported.{setupRefusal, setupUsed, numbersAfter, repliesAfter, freeNodesAfter};
+ghost use Rattle.texts.specs.Made.{answered, laid, textNumber};
+ghost use Rattle.texts.specs.Text.{imported, exported};
+ghost use Rattle.kemilunda.specs.Exported.{setupRefusal, setupUsed, numbersAfter, repliesAfter, freeNodesAfter, writtenBy};
 
 // 0 for a setup that is accepted, else its refusal.
 #[no_mangle]
@@ -71,4 +74,36 @@ pub extern "C" fn kemilunda_run(input: &[u8], replies: &mut [u8], numbers: &mut 
 {
     let mut none: [u8; 0] = [];
     kemilunda_run_free(input, replies, &mut none, numbers)
+}
+
+// The number of an import's or export's answer; its length goes to its own place, which a refusal leaves alone.
+fn told(a: TextAnswer, written: &mut usize) -> u32
+    ensures { λ r. ⌜ (r ≡ textNumber a) × (now (written .exit) ≡ writtenBy a (now (written .entry))) ⌝ }
+{
+    let number = texts::text_number(a) as u32;
+    match a {
+        TextAnswer::NotWritten(_) => number,
+        TextAnswer::Written(n) => {
+            *written = n;
+            number
+        }
+    }
+}
+
+// A schedule from text to entry bytes: 0, with how many bytes were written; or the refusal, and nothing is written.
+#[no_mangle]
+pub extern "C" fn kemilunda_import(text: &[u8], entries: &mut [u8], written: &mut usize) -> u32
+    ensures { λ r. ⌜ (r ≡ textNumber (answered (imported (now (text .entry))) (length (now (entries .entry))))) × (now (entries .exit) ≡ laid (imported (now (text .entry))) (now (entries .entry))) × (now (written .exit) ≡ writtenBy (answered (imported (now (text .entry))) (length (now (entries .entry)))) (now (written .entry))) ⌝ }
+{
+    let a = texts::import(text, entries);
+    told(a, written)
+}
+
+// And from entry bytes to text.
+#[no_mangle]
+pub extern "C" fn kemilunda_export(entries: &[u8], text: &mut [u8], written: &mut usize) -> u32
+    ensures { λ r. ⌜ (r ≡ textNumber (answered (exported (now (entries .entry))) (length (now (text .entry))))) × (now (text .exit) ≡ laid (exported (now (entries .entry))) (now (text .entry))) × (now (written .exit) ≡ writtenBy (answered (exported (now (entries .entry))) (length (now (text .entry)))) (now (written .entry))) ⌝ }
+{
+    let a = texts::export(entries, text);
+    told(a, written)
 }

@@ -8,6 +8,7 @@ use mathlib.Core.Logic.{_≢_}
 use lib.Dec.{T, eqb, leb, ltb}
 use lib.ListN.{length, getD}
 use borrow.Author.Tests.{lt-leb, eq-eqb, leb-true, leb-false, ltb-true, ltb-false, eqb-true, eqb-false, not-true, not-false}
+use Rattle.tallies.proofs.Lists.{by-test}
 use Rattle.wire.specs.Bytes.{entryMark, marked, wordAt}
 use Rattle.tasks.specs.Records.{cellNo}
 use Rattle.steps.specs.Table.{rows, effectOf}
@@ -20,7 +21,6 @@ use Rattle.runs.specs.Counts.{accepted, kindOf, taskOf}
 use Rattle.laws.specs.Types.{Refusal, NoTask, NoKind, NoCell, NotZero, NotNow, OtherCell, Task, Effect, Does, Refuses, Entry, EntryRead, Machine, Decision}
 use Rattle.laws.specs.Kept.{Kept}
 use Rattle.laws.specs.Accepts.{May, go, load, store, release, validate, Fits}
-use Rattle.laws.proofs.Phases.{by-test}
 use Rattle.laws.proofs.Entries.{taskNo}
 use Rattle.laws.proofs.Damage.{in-range, Steady, steady}
 

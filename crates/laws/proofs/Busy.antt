@@ -11,7 +11,7 @@ use lib.ListN.{getD, replicate, length-replicate}
 use lib.Seq.{getD-set-other}
 use Rattle.tallies.specs.Lists.{within}
 use Rattle.tallies.specs.Tally.{bit}
-use Rattle.tallies.proofs.Lists.{fill-at, both}
+use Rattle.tallies.proofs.Lists.{fill-at, both, either}
 use Rattle.tallies.proofs.Tally.{tally-at, tally-most, bit-le, bit-eq, total-add, total-mono}
 use Rattle.tallies.proofs.Bounds.{tally-short, total-part}
 use Rattle.tasks.specs.Records.{cellNo, nodeNo, noTask, idleOwning}
@@ -23,12 +23,12 @@ use Rattle.cells.specs.Machine.{seenOf, cellsAfter, written}
 use Rattle.cells.specs.Apply.{applyOf}
 use Rattle.cells.specs.Setup.{freshOf}
 use Rattle.runs.specs.Counts.{taskOf}
-use Rattle.runs.specs.Run.{entriesOf}
+use Rattle.entries.specs.Schedule.{entriesOf}
 use Rattle.laws.specs.Types.{Task, Load, Store, Release, Validate, Deed, Write, Nothing, Machine}
 use Rattle.laws.specs.Meaning.{points, owns, used}
 use Rattle.laws.specs.Kept.{InRange, Kept}
 use Rattle.laws.specs.Schedules.{applied, tried, Reached, set-up, entered, ran}
-use Rattle.laws.proofs.Phases.{phase-gives, either}
+use Rattle.laws.proofs.Phases.{phase-gives}
 use Rattle.laws.proofs.Entries.{taskNo, by-entry}
 use Rattle.laws.proofs.Rows.{Moves, l1, l2, l3-passed, l3-turned, l4, l5, s1, s2-swapped, s2-missed, s3-took, s3-shared, s5, s6-took, s6-busy, s7, r1, v1-good, v1-gone, moves}
 use Rattle.laws.proofs.Keeps.{task, in-list, put-here, in-cells}

@@ -8,7 +8,7 @@ use mathlib.Core.Logic.{_≢_}
 use lib.Dec.{T, eqb}
 use lib.ListN.{getD, set}
 use borrow.Author.Tests.{lt-ltb, le-ltb, le-leb, ne-eqb, eqb-true}
-use Rattle.tallies.proofs.Lists.{within-true, every-true}
+use Rattle.tallies.proofs.Lists.{within-true, every-true, by-test}
 use Rattle.tallies.specs.Tally.{bit}
 use Rattle.tallies.proofs.Tally.{T→true}
 use Rattle.tallies.proofs.Bounds.{total-part}
@@ -20,10 +20,11 @@ use Rattle.tables.specs.Tables.{sizesOk, cellOk, countOk, taskOkIn}
 use Rattle.cells.specs.Machine.{seenOf, poolOk, inRange}
 use Rattle.cells.specs.Apply.{applyOf}
 use Rattle.runs.specs.Counts.{accepted}
-use Rattle.runs.specs.Run.{entriesOf, reportOf, counted, ranFrom, ranOf}
-use Rattle.laws.specs.Types.{Answer, Replied, Refused, Reply, Moved, Loaded, Took, Lost, Released, Good, Gone, Sizes, NoTask, NoKind, NoCell, NotZero, NotNow, NoStep, OtherCell, WrongMark, TooShort, NoRoom, Damaged, TooLong, NodeNo, Task, Seen, Count, To, Effect, Does, Refuses, Machine, Report, Ran}
+use Rattle.entries.specs.Schedule.{entriesOf}
+use Rattle.runs.specs.Run.{reportOf, counted, ranFrom, ranOf}
+use Rattle.laws.specs.Types.{Answer, Replied, Refused, Reply, Moved, Loaded, Took, Lost, Released, Good, Gone, Sizes, NoTask, NoKind, NoCell, NotZero, NotNow, NoStep, OtherCell, WrongMark, TooShort, NoRoom, Damaged, TooLong, NotALine, TooLarge, OutputShort, NodeNo, Task, Seen, Count, To, Effect, Does, Refuses, Machine, Report, Ran}
 use Rattle.laws.specs.Kept.{Kept}
-use Rattle.laws.proofs.Phases.{by-phase, by-test}
+use Rattle.laws.proofs.Phases.{by-phase}
 use Rattle.laws.proofs.Entries.{Damage, by-range, by-step, by-entry}
 use Rattle.laws.proofs.Keeps.{task, freed}
 use Rattle.laws.proofs.Table.{entry-keeps}
@@ -161,6 +162,9 @@ number-22 (Refused TooShort) ne = omega arith
 number-22 (Refused NoRoom) ne = omega arith
 number-22 (Refused Damaged) ne = λ q. ne refl
 number-22 (Refused TooLong) ne = omega arith
+number-22 (Refused NotALine) ne = omega arith
+number-22 (Refused TooLarge) ne = omega arith
+number-22 (Refused OutputShort) ne = omega arith
 
 entries-undamaged : (es : List (List ℕ)) (m : Machine) (r : Report) → Kept m → r .refusal ≢ 22 → ranFrom m r es .report .refusal ≢ 22
 unfolding ranFrom

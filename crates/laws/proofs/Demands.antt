@@ -13,7 +13,8 @@ use Rattle.cells.specs.Setup.{blankOf, setupOf}
 use Rattle.cells.specs.declared.free.FreeCount.the-variants.{Free}
 use Rattle.cells.specs.Free.{freeNodes}
 use Rattle.runs.specs.Counts.{accepted, taskOf, anywhere, loadsAt, stepsAt, turnedAt, swapsAt}
-use Rattle.runs.specs.Run.{entriesIn, entriesOf, replyBytes, repliesOf, untriedOf, ranOf, bufferOf, notedOf}
+use Rattle.entries.specs.Schedule.{entriesIn, entriesOf}
+use Rattle.runs.specs.Run.{replyBytes, repliesOf, untriedOf, ranOf, bufferOf, notedOf}
 use Rattle.figure1.specs.Figure1.{Call, store, validate, Result, took, lost, good, gone}
 use Rattle.figure1.specs.Histories.{State, Event, begins, ends, after, afterAll, given, Follows, start}
 use Rattle.figure1.specs.Counts.{beginsBy, actsBy, endsBy, number}

@@ -12,7 +12,8 @@ use Rattle.cells.specs.Machine.{inRange}
 use Rattle.cells.specs.Apply.{applyOf}
 use Rattle.cells.specs.Setup.{setupOf}
 use Rattle.runs.specs.Counts.{taskOf}
-use Rattle.runs.specs.Run.{entriesIn, entriesOf, replyBytes, repliesFrom, bufferOf}
+use Rattle.entries.specs.Schedule.{entriesIn, entriesOf}
+use Rattle.runs.specs.Run.{replyBytes, repliesFrom, bufferOf}
 use Rattle.figure1.specs.Figure1.{Result}
 use Rattle.figure1.specs.Histories.{Event, acts, ends, afterAll, Follows, start}
 use Rattle.figure1.specs.Calls.{Called}

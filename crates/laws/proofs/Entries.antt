@@ -9,6 +9,7 @@ use mathlib.Core.Logic.{_≢_}
 use lib.Dec.{eqb, leb, ltb}
 use lib.ListN.{length, getD}
 use borrow.Author.Tests.{ltb-false, leb-false, eqb-true, eqb-false, not-true, not-false, lt-leb}
+use Rattle.tallies.proofs.Lists.{by-test}
 use Rattle.wire.specs.Bytes.{entryMark, marked, wordAt}
 use Rattle.answers.specs.Numbers.{refusalNumber}
 use Rattle.tasks.specs.Records.{cellNo, noTask}
@@ -22,7 +23,6 @@ use Rattle.runs.specs.Counts.{accepted, kindOf, taskOf}
 use Rattle.laws.specs.Types.{Refusal, NoTask, NoKind, NoCell, NotZero, NotNow, OtherCell, WrongMark, TooShort, Damaged, Task, Load, Store, Release, Validate, Deed, Effect, Does, Refuses, Entry, EntryRead, Machine, Applied}
 use Rattle.laws.specs.Bytes.{go as goes}
 pub use Rattle.laws.specs.Outcomes.{taskNo, stepOf, Asks, Steps, Damage, by-range, by-step, begunBy, steppedBy, Outcome, refused, loads, stores, releases, validates, steps}
-use Rattle.laws.proofs.Phases.{by-test}
 
 module _ (m : Machine) (e : List ℕ) where
   abbrev t : Task

@@ -10,6 +10,7 @@ use lib.Dec.{T, eqb}
 use lib.ListN.{getD, set}
 use lib.Seq.{getD-set-other}
 use borrow.Author.Tests.{eq-eqb, ne-eqb}
+use Rattle.tallies.proofs.Lists.{either}
 use Rattle.tallies.proofs.Tally.{tally-at, bit-eq, put-each}
 use Rattle.wire.specs.Bytes.{wordAt}
 use Rattle.tasks.specs.Records.{noTask, onward}
@@ -24,7 +25,7 @@ use Rattle.laws.specs.Types.{TaskNo, Task, Nothing, Point, Value, Deed, 
 use Rattle.laws.specs.Meaning.{points, claims}
 use Rattle.laws.specs.Kept.{Ready, InRange, Kept}
 use Rattle.laws.specs.Acts.{inSet, linkedAt, standing, Matches, actsFrom, ending, each, eventsIn, eventsOf}
-use Rattle.laws.proofs.Phases.{either, phase-gives}
+use Rattle.laws.proofs.Phases.{phase-gives}
 use Rattle.laws.proofs.Entries.{taskNo, by-entry}
 use Rattle.laws.proofs.Rows.{Moves, l1, l2, l3-passed, l3-turned, l4, l5, s1, s2-swapped, s2-missed, s3-took, s3-shared, s5, s6-took, s6-busy, s7, r1, v1-good, v1-gone, moves}
 use Rattle.laws.proofs.Keeps.{task, in-list, put-here, in-cells, part}

@@ -8,16 +8,17 @@ use mathlib.Core.List.{List, [], _∷_}
 use lib.ListN.{length, getD, take, drop, length-append, length-take, length-drop, List·getD-append, List·getD-eq-default}
 use lib.Seq.{getD-append-add, getD-drop, getD-take}
 use borrow.Author.Tests.{le-leb}
+use Rattle.tallies.proofs.Lists.{by-test, either}
 use Rattle.cells.specs.declared.free.FreeCount.the-variants.{Free}
 use Rattle.cells.specs.Apply.{applyOf}
 use Rattle.cells.specs.Free.{freeOf, freeNodes, freeValue}
 use Rattle.runs.specs.Counts.{accepted}
-use Rattle.runs.specs.Run.{entriesIn, entriesOf, notesFrom, startsOf, notedBy, notedOf}
+use Rattle.entries.specs.Schedule.{entriesIn, entriesOf}
+use Rattle.runs.specs.Run.{notesFrom, startsOf, notedBy, notedOf}
 use Rattle.laws.specs.Types.{Machine}
 use Rattle.laws.specs.Meaning.{free}
 use Rattle.laws.specs.Kept.{Kept}
 use Rattle.laws.specs.Schedules.{applied, tried}
-use Rattle.laws.proofs.Phases.{by-test, either}
 use Rattle.laws.proofs.Table.{entry-keeps}
 use Rattle.laws.proofs.Damage.{pool-ok, in-range}
 

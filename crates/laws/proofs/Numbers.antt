@@ -8,13 +8,14 @@ use mathlib.Core.List.{List, [], _∷_, _++_}
 use lib.Dec.{eqb, ltb}
 use lib.ListN.{length}
 use borrow.Author.Tests.{le-ltb}
+use Rattle.tallies.proofs.Lists.{either}
 use Rattle.answers.specs.Numbers.{numberOf}
 use Rattle.cells.specs.Machine.{inRange}
 use Rattle.cells.specs.Apply.{applyOf}
 use Rattle.runs.specs.Counts.{accepted, anywhere, loadsAt, stepsAt, turnedAt, swapsAt}
-use Rattle.runs.specs.Run.{entriesIn, entriesOf, reportOf, counted, refusedAt, ranFrom, ranOf}
+use Rattle.entries.specs.Schedule.{entriesIn, entriesOf}
+use Rattle.runs.specs.Run.{reportOf, counted, refusedAt, ranFrom, ranOf}
 use Rattle.laws.specs.Types.{Answer, Replied, Refused, Machine, Report, Ran}
-use Rattle.laws.proofs.Phases.{either}
 use Rattle.laws.specs.Schedules.{applied, over, tried}
 use Rattle.laws.specs.Numbers.{acceptedAt, refusalIn, lastRefusal, numbersOf, startRefusal, triedBy, triedAll, overRuns}
 

@@ -1,9 +1,9 @@
--- By phase, and by test. Assumes nothing.
+-- By phase. Assumes nothing.
 use Prim.Native.Nat.{ℕ, zero, suc, _≤_, _<_}
 use native.Mathlib.Omega.{arith}
 use native.Mathlib.Decide.{ℕ-discrete}
-use mathlib.Core.Path.{_≡_, refl, subst, sym}
-use mathlib.Core.Bool.{Bool, true, false, cond, not, _&&_, _||_}
+use mathlib.Core.Path.{subst, sym}
+use mathlib.Core.Bool.{Bool, true, false, not, _&&_, _||_}
 use mathlib.Core.Logic.{_≢_}
 use lib.Dec.{T, eqb, leb}
 use borrow.Author.Tests.{leb-true, eqb-false, not-true}
@@ -37,16 +37,6 @@ by-phase R r0 r1 r2 r3 r4 r5 r6 r7 r8 r9 r11 r12 r13 r14 r15 (suc (suc (suc (suc
 by-phase R r0 r1 r2 r3 r4 r5 r6 r7 r8 r9 r11 r12 r13 r14 r15 (suc (suc (suc (suc (suc (suc (suc (suc (suc (suc (suc (suc (suc (suc (suc zero))))))))))))))) h = r15
 by-phase R r0 r1 r2 r3 r4 r5 r6 r7 r8 r9 r11 r12 r13 r14 r15 (suc (suc (suc (suc (suc (suc (suc (suc (suc (suc (suc (suc (suc (suc (suc (suc n)))))))))))))))) h =
     absurd (omega (arith, phase-is (suc (suc (suc (suc (suc (suc (suc (suc (suc (suc (suc (suc (suc (suc (suc (suc n)))))))))))))))) h))
-
--- what holds either way holds of the choice
-pub by-test : {A : Type 0} (R : A → Type 0) (b : Bool) (x y : A) → (b ≡ true → R x) → (b ≡ false → R y) → R (cond b x y)
-by-test R true x y f g = f refl
-by-test R false x y f g = g refl
-
--- by a Bool, with what it is
-pub either : (R : Bool → Type 0) (b : Bool) → (b ≡ true → R true) → (b ≡ false → R false) → R b
-either R true f g = f refl
-either R false f g = g refl
 
 -- a test that passes at each number below n, computed
 abbrev pub below : ℕ → (ℕ → Bool) → Bool

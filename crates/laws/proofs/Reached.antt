@@ -4,7 +4,8 @@ use mathlib.Core.Path.{_≡_, refl, ap, _∙_}
 use mathlib.Core.List.{List, [], _∷_, _++_}
 use Rattle.cells.specs.Apply.{applyOf}
 use Rattle.cells.specs.Setup.{setupOf}
-use Rattle.runs.specs.Run.{entriesOf, ranOf}
+use Rattle.entries.specs.Schedule.{entriesOf}
+use Rattle.runs.specs.Run.{ranOf}
 use Rattle.laws.specs.Types.{Machine}
 use Rattle.laws.specs.Kept.{Kept}
 use Rattle.laws.specs.Schedules.{applied, tried, Reached, set-up, entered, ran, Scheduled}

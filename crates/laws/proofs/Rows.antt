@@ -7,13 +7,14 @@ use mathlib.Core.Logic.{inl, inr}
 use lib.Dec.{eqb, ltb}
 use lib.ListN.{getD}
 use borrow.Author.Tests.{le-leb, ne-eqb, ltb-false, eqb-true, eqb-false}
+use Rattle.tallies.proofs.Lists.{by-test}
 use Rattle.tallies.specs.Tally.{bit}
 use Rattle.tasks.specs.Records.{onward, owning, probing}
 use Rattle.steps.specs.Table.{after, freeAfter, recountedOf, raisedOf, loweredOf, counting, leaving, rows, noPhase, effectOf}
 use Rattle.steps.proofs.Rows.{effect-no-phase}
 use Rattle.laws.specs.Types.{Reply, Moved, Took, Lost, Released, NodeNo, Task, Seen, Count, Counted, To, Broken, Deed, Effect, Does, Refuses}
 pub use Rattle.laws.specs.Moves.{deed, raised, lowered, Moves, l1, l2, l3-passed, l3-turned, l4, l5, s1, s2-swapped, s2-missed, s3-took, s3-shared, s5, s6-took, s6-busy, s7, r1, v1-good, v1-gone}
-use Rattle.laws.proofs.Phases.{by-phase, by-test}
+use Rattle.laws.proofs.Phases.{by-phase}
 
 -- a step that counts is refused, or the count and the number of free nodes are as they must be
 abbrev To-number : Seen → NodeNo → ℕ → ℕ → Counted

@@ -9,14 +9,15 @@ use mathlib.Core.List.{List, [], _∷_, _++_}
 use lib.ListN.{length, getD, take, drop, length-append, length-drop}
 use lib.Seq.{drop-append-add, getD-append-add, getD-drop}
 use borrow.Author.Tests.{lt-ltb, le-ltb, le-leb, lt-leb}
+use Rattle.tallies.proofs.Lists.{either}
 use Rattle.answers.specs.Numbers.{numberOf}
 use Rattle.cells.specs.Machine.{inRange}
 use Rattle.cells.specs.Apply.{applyOf}
 use Rattle.runs.specs.Counts.{accepted}
-use Rattle.runs.specs.Run.{entriesIn, cut, entriesOf, replyBytes, repliesFrom, reportOf, counted, refusedAt, ranFrom, untriedOf, ranOf, repliesOf, bufferOf, notedOf}
+use Rattle.entries.specs.Schedule.{entriesIn, cut, entriesOf}
+use Rattle.runs.specs.Run.{replyBytes, repliesFrom, reportOf, counted, refusedAt, ranFrom, untriedOf, ranOf, repliesOf, bufferOf, notedOf}
 use Rattle.laws.specs.Types.{Refusal, NoRoom, Damaged, TooLong, Machine, Report, Ran}
 use Rattle.laws.specs.Schedules.{applied, tried}
-use Rattle.laws.proofs.Phases.{either}
 
 pub data Run (m : Machine) (s : List ℕ) (room : ℕ) : Ran → List ℕ → Type 0 where
   damaged : inRange m ≡ false → Run m s room (untriedOf m Damaged) []

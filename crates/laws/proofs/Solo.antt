@@ -11,6 +11,7 @@ use lib.Dec.{T, eqb, ltb}
 use lib.ListN.{getD}
 use lib.Seq.{getD-set-same}
 use borrow.Author.Tests.{eq-eqb, ne-eqb, lt-ltb}
+use Rattle.tallies.proofs.Lists.{either}
 use Rattle.tallies.specs.Lists.{within}
 use Rattle.tallies.specs.Tally.{bit}
 use Rattle.tallies.proofs.Tally.{bit-le, total-front, total-round, total-gap}
@@ -24,7 +25,7 @@ use Rattle.laws.specs.Types.{Moved, Replied, NodeNo, Task, Seen, Deed, E
 use Rattle.laws.specs.Kept.{Kept}
 use Rattle.laws.specs.Bytes.{go}
 use Rattle.laws.specs.Solo.{Finished, Within}
-use Rattle.laws.proofs.Phases.{by-phase, either}
+use Rattle.laws.proofs.Phases.{by-phase}
 use Rattle.laws.proofs.Entries.{go-steps}
 use Rattle.laws.proofs.Keeps.{task, put-here, in-counts}
 use Rattle.laws.proofs.Table.{step-keeps}

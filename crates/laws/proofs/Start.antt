@@ -9,7 +9,7 @@ use lib.Dec.{eqb, leb, ltb}
 use lib.ListN.{length, getD, replicate, getD-replicate}
 use borrow.Author.Tests.{le-leb, lt-leb, lt-ltb, le-ltb, not-false}
 use Rattle.tallies.specs.Tally.{bit, total}
-use Rattle.tallies.proofs.Lists.{fill-length, fill-at, fill-past}
+use Rattle.tallies.proofs.Lists.{fill-length, fill-at, fill-past, by-test}
 use Rattle.tallies.proofs.Tally.{bit-le, tally-fill, total-at, total-join, total-same, total-split, total-zero}
 use Rattle.wire.specs.Bytes.{setupMark, marked}
 use Rattle.tasks.specs.Records.{nodeNo, noTask, idleOwning}
@@ -22,7 +22,6 @@ use Rattle.laws.specs.Types.{Refusal, Sizes as Bad, NotZero, WrongMark, 
 use Rattle.laws.specs.Meaning.{points, claims, pointers, claimers, keepers, free}
 use Rattle.laws.specs.Kept.{Kept}
 use Rattle.laws.specs.Acts.{Matches}
-use Rattle.laws.proofs.Phases.{by-test}
 
 -- the sizes that a setup is taken with
 pub record Sizes (n p k : ℕ) : Type 0 where

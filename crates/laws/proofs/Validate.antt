@@ -7,6 +7,7 @@ use mathlib.Core.List.{List}
 use lib.Dec.{eqb}
 use lib.ListN.{getD}
 use borrow.Author.Tests.{eq-eqb, ne-eqb, eqb-true, eqb-false}
+use Rattle.tallies.proofs.Lists.{by-test}
 use Rattle.tables.specs.Tables.{valueGiven}
 use Rattle.steps.specs.Table.{rows, answerOf}
 use Rattle.steps.proofs.Rows.{effect-at}
@@ -21,7 +22,6 @@ use Rattle.laws.specs.Types.{Replied, Answer, Task, Machine, Ready, Deed
 use Rattle.laws.specs.Outcomes.{Asks, Steps}
 use Rattle.laws.specs.Schedules.{applied}
 use Rattle.laws.specs.Validate.{Validated, good, gone}
-use Rattle.laws.proofs.Phases.{by-test}
 use Rattle.laws.proofs.Entries.{by-entry}
 use Rattle.laws.proofs.Start.{setup-kept}
 use Rattle.laws.proofs.Reached.{schedule-keeps}

@@ -9,7 +9,8 @@ use Rattle.answers.specs.Numbers.{refusalNumber}
 use Rattle.cells.specs.Machine.{inRange}
 use Rattle.cells.specs.Apply.{applyOf}
 use Rattle.runs.specs.Counts.{accepted, anywhere, loadsAt, stepsAt, turnedAt, swapsAt}
-use Rattle.runs.specs.Run.{entriesIn, entriesOf, ranOf}
+use Rattle.entries.specs.Schedule.{entriesIn, entriesOf}
+use Rattle.runs.specs.Run.{ranOf}
 use Rattle.laws.specs.Types.{Answer, Replied, Refused, Machine, Report}
 use Rattle.laws.specs.Schedules.{over, tried}
 

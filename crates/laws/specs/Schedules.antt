@@ -7,7 +7,8 @@ use lib.ListN.{getD, take}
 use Rattle.cells.specs.Apply.{applyOf}
 use Rattle.cells.specs.Setup.{setupOf}
 use Rattle.runs.specs.Counts.{accepted}
-use Rattle.runs.specs.Run.{entriesOf, ranOf}
+use Rattle.entries.specs.Schedule.{entriesOf}
+use Rattle.runs.specs.Run.{ranOf}
 use Rattle.laws.specs.Types.{Machine, Ready}
 
 -- the record after a schedule

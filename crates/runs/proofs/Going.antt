@@ -5,8 +5,8 @@ use mathlib.Core.Bool.{Bool, true, false}
 use mathlib.Core.List.{List, [], _∷_}
 use native.Mathlib.Decide.{decLe}
 use native.Mathlib.Omega.{arith}
-use lib.ListN.{length, take, drop, set, length-append, length-drop, length-set}
-use lib.Seq.{length-take-le, take-all}
+use lib.ListN.{length, take, drop, set, length-drop, length-set}
+use lib.Seq.{take-all}
 use Rattle.answers.specs.Numbers.{refusalNumber, numberOf}
 use Rattle.wire.specs.Bytes.{overlaid}
 use Rattle.cells.specs.Machine.{written, refusedBy}
@@ -14,10 +14,12 @@ use Rattle.cells.specs.Apply.{applyOf}
 use Rattle.cells.proofs.Decide.{decidedOn, Known, applied-refuses, applied-does}
 use Rattle.runs.specs.Types.{Machine, Report, Applied, Task, Refusal, Deed, Does, Refuses, Decision}
 use Rattle.runs.specs.Counts.{accepted, kindOf, taskOf}
-use Rattle.runs.specs.Run.{entriesIn, entriesOf, cut, counted, reportOf, refusedAt, ranFrom, replyBytes, repliesFrom, freeNow, notesFrom, notedBy}
+use Rattle.entries.specs.Schedule.{entriesIn, cut, entriesOf}
+use Rattle.runs.specs.Run.{counted, reportOf, refusedAt, ranFrom, replyBytes, repliesFrom, freeNow, notesFrom, notedBy}
 use Rattle.runs.specs.OneEntry.{Few, toldOf, decisionBytes}
 use Rattle.runs.proofs.Decision.{decision-bytes, decision-accepted, decision-counted}
-use Rattle.runs.proofs.Laws.{counted-by, few-more, cut-next, cut-none, ran-on, ran-stops, ran-ends, replies-on, replies-stop, replies-end, over-none, over-more}
+use Rattle.runs.proofs.Laws.{counted-by, few-more, cut-next, cut-none, ran-on, ran-stops, ran-ends, replies-on, replies-stop, replies-end}
+use Rattle.wire.proofs.Laws.{over-none, over-more, over-length}
 use Rattle.runs.proofs.Notes.{notedAt, noted-front, noted-on, noted-stops, noted-ends}
 
 -- a run on the bytes s from machine m₀ and the buffers o₀ and f₀ has taken i entries: what is left of it gives the whole
@@ -39,13 +41,6 @@ piece s at h =
           let d = length-drop at s in
           rw e (take-all (length s - at) (drop at s) (omega arith) ∙ sym (take-all 10 (drop at s) (omega arith))))
     ]
-
--- bytes laid over leave the length
-pub over-length : (o : List ℕ) (at : ℕ) (b : List ℕ) → at + length b ≤ length o → length (overlaid o at b) ≡ length o
-over-length o at b h =
-    let d = length-drop (at + length b) o in
-    let t = length-take-le at o (omega arith) in
-    simp length-append (omega arith)
 
 module _ (s o₀ f₀ : List ℕ) (m₀ : Machine) where
   pub starts : Going s o₀ f₀ m₀ o₀ f₀ m₀ (reportOf 0) 0

@@ -1,21 +1,20 @@
 -- Laws of one entry of a run and of what is left of it, over plain variables. Assumes nothing.
 use Prim.Native.Nat.{ℕ, suc, _+_, _-_, _*_, _≤_, _<_}
-use mathlib.Core.Path.{_≡_, refl, sym, ap, _∙_}
+use mathlib.Core.Path.{_≡_, refl, ap, _∙_}
 use mathlib.Core.Bool.{true, false, and-true, _&&_}
 use lib.Dec.{eqb}
 use Rattle.tallies.specs.Lists.{within}
 use Rattle.answers.specs.Numbers.{numberOf}
-use mathlib.Core.List.{List, [], _∷_, _++_, append-assoc, append-nil}
-use native.Mathlib.Nat.{add-zero, zero-add}
+use mathlib.Core.List.{List, [], _∷_, _++_}
 use native.Mathlib.Omega.{arith}
-use lib.ListN.{length, take, drop, length-append, take-append-drop}
-use lib.Seq.{drop-drop, take-at, drop-append-add, length-take-le}
+use lib.ListN.{take, drop}
+use lib.Seq.{drop-drop}
 use Rattle.tallies.proofs.Tally.{bit-le}
-use Rattle.wire.specs.Bytes.{overlaid}
 use Rattle.cells.specs.Apply.{applyOf}
 use Rattle.runs.specs.Types.{Machine, Report}
 use Rattle.runs.specs.Counts.{accepted, kindOf, taskOf}
-use Rattle.runs.specs.Run.{cut, counted, refusedAt, ranFrom, replyBytes, repliesFrom}
+use Rattle.entries.specs.Schedule.{cut}
+use Rattle.runs.specs.Run.{counted, refusedAt, ranFrom, replyBytes, repliesFrom}
 use Rattle.runs.specs.OneEntry.{loadBegun, loadStep, wentOf, countedBy, Few}
 
 -- an accepted entry counts by its kind and its task's phases
@@ -85,20 +84,6 @@ pub replies-end : (m : Machine) → repliesFrom m [] ≡ []
 unfolding repliesFrom
 replies-end m = refl
 
--- nothing laid over the bytes leaves them
-pub over-none : (o : List ℕ) (at : ℕ) → overlaid o at [] ≡ o
-over-none o at = rw (append-nil, add-zero) (take-append-drop at o)
-
--- bytes laid over, and more after them
-pub over-more : (o : List ℕ) (at : ℕ) (b c : List ℕ) → at + length b ≤ length o → overlaid (overlaid o at b) (at + length b) c ≡ overlaid o at (b ++ c)
-over-more o at b c h =
-    let front : length (take at o ++ b) ≡ at + length b = length-append (take at o) b ∙ ap (λ (k : ℕ). k + length b) (length-take-le at o (omega arith)) in
-    let sum : at + length b + length c ≡ at + (length b + length c) = omega arith in
-    let rest : drop (at + length b + length c) (overlaid o at b) ≡ drop (at + (length b + length c)) o =
-    ap (λ (k : ℕ). drop (k + length c) (overlaid o at b)) (sym front) ∙ drop-append-add (take at o ++ b) (drop (at + length b) o) (length c)
-    ∙ drop-drop (length c) (at + length b) o ∙ ap (λ (k : ℕ). drop k o) sum in
-    rw (take-at (take at o ++ b) (drop (at + length b) o) (at + length b) front, rest, length-append) (simp append-assoc)
-
 pub few-le : (k n : ℕ) (r : Report) → k ≤ n → Few k r → Few n r
 few-le k n r h few =
     record {
@@ -108,7 +93,3 @@ few-le k n r h few =
       turned-back = omega (arith, few .turned-back);
       swaps = omega (arith, few .swaps);
     }
-
--- bytes laid over from the front
-pub over-front : (o b : List ℕ) → overlaid o 0 b ≡ b ++ drop (length b) o
-over-front o b = rw (zero-add (length b))

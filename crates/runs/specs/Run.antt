@@ -1,28 +1,17 @@
 -- A run of a whole schedule from bytes: its entries, its replies, its free nodes and its six numbers, built on single entries.
-use Prim.Native.Nat.{ℕ, zero, suc, _+_, _*_, _/_}
+use Prim.Native.Nat.{ℕ, _+_, _*_}
 use mathlib.Core.Bool.{Bool, cond, not, _&&_}
 use mathlib.Core.List.{List, [], _∷_, _++_}
 use lib.Dec.{leb, ltb}
 use lib.ListN.{length, take, drop}
 use Rattle.wire.specs.Bytes.{replyOf}
 use Rattle.answers.specs.Numbers.{refusalNumber, numberOf, valueOf}
+use Rattle.entries.specs.Schedule.{entriesIn, entriesOf}
 use Rattle.cells.specs.Machine.{inRange}
 use Rattle.cells.specs.Apply.{applyOf}
 use Rattle.cells.specs.Free.{freeNodes, freeValue}
 use Rattle.runs.specs.Types.{Machine, Applied, Refusal, NoRoom, Damaged, TooLong, Report, Ran}
 use Rattle.runs.specs.Counts.{accepted, anywhere, loadsAt, stepsAt, turnedAt, swapsAt}
-
--- how many entries the bytes are, a cut one included
-abbrev pub entriesIn : List ℕ → ℕ
-entriesIn s = (length s + 9) / 10
-
--- n entries from the front: ten bytes each, or what is left
-unfoldable pub cut : ℕ → List ℕ → List (List ℕ)
-cut zero s = []
-cut (suc n) s = take 10 s ∷ cut n (drop 10 s)
-
-abbrev pub entriesOf : List ℕ → List (List ℕ)
-entriesOf s = cut (entriesIn s) s
 
 -- an applied entry's reply
 abbrev pub replyBytes : Applied → List ℕ

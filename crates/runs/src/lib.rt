@@ -9,7 +9,8 @@ ghost use Prim.Native.Nat.{_+_, _*_, _≤_, min};
 ghost use lib.ListN.{length, set};
 ghost use Rattle.wire.specs.Bytes.{overlaid};
 ghost use Rattle.cells.specs.Free.{freeOf, freeValue};
-ghost use Rattle.runs.specs.Run.{entriesIn, entriesOf, repliesFrom, notesFrom, notedBy, reportOf, ranFrom, untriedOf, ranOf, bufferOf, notedOf};
+ghost use Rattle.entries.specs.Schedule.{entriesIn, entriesOf};
+ghost use Rattle.runs.specs.Run.{repliesFrom, notesFrom, notedBy, reportOf, ranFrom, untriedOf, ranOf, bufferOf, notedOf};
 ghost use Rattle.runs.specs.OneEntry.{loadBegun, loadStep, wentOf, countedBy, Few, toldOf, decisionBytes};
 
 // Entries accepted, the refusal or 0, loads begun, load steps, turned-back checks, swaps that took: all for one run.

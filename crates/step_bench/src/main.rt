@@ -24,17 +24,15 @@ fn put_bytes(text: &mut [u8], at: usize, s: &[u8]) -> usize
     end
 }
 
-fn put_number(text: &mut [u8], at: usize, n: u64) -> usize
+fn put_number(text: &mut [u8], at: usize, n: u32) -> usize
     requires { ⌜ at ≤ length (now text) ⌝ }
     ensures { λ r. ⌜ r ≤ length (now (text .exit)) ⌝ }
 {
-    let mut digits = [0u8; 20];
-    let k = io::decimal(n, &mut digits);
-    put_bytes(text, at, &digits[..k])
+    digits::put_number(text, at, n)
 }
 
 // A word, then a number.
-fn put_field(text: &mut [u8], at: usize, word: &[u8], n: u64) -> usize
+fn put_field(text: &mut [u8], at: usize, word: &[u8], n: u32) -> usize
     requires { ⌜ at ≤ length (now text) ⌝ }
     ensures { λ r. ⌜ r ≤ length (now (text .exit)) ⌝ }
 {
@@ -45,9 +43,9 @@ fn put_field(text: &mut [u8], at: usize, word: &[u8], n: u64) -> usize
 fn put_heading(text: &mut [u8], n: u8, p: u8, k: u8) -> usize
     ensures { λ r. ⌜ r ≤ length (now (text .exit)) ⌝ }
 {
-    let a = put_field(text, 0, b"cells ", n as u64);
-    let b = put_field(text, a, b" tasks ", p as u64);
-    let c = put_field(text, b, b" nodes ", k as u64);
+    let a = put_field(text, 0, b"cells ", n as u32);
+    let b = put_field(text, a, b" tasks ", p as u32);
+    let c = put_field(text, b, b" nodes ", k as u32);
     put_bytes(text, c, b"\n")
 }
 
@@ -60,10 +58,10 @@ fn put_line(text: &mut [u8], at: usize, i: u32, replies: &[u8]) -> usize
     let number = wire::byte_at(replies, (from + 2) as usize);
     let task = wire::byte_at(replies, (from + 3) as usize);
     let value = wire::word_at(replies, from + 4);
-    let a = put_number(text, at, (i + 1) as u64);
-    let b = put_field(text, a, b" ", task as u64);
-    let c = put_field(text, b, b" ", number as u64);
-    let d = put_field(text, c, b" ", value as u64);
+    let a = put_number(text, at, i + 1);
+    let b = put_field(text, a, b" ", task as u32);
+    let c = put_field(text, b, b" ", number as u32);
+    let d = put_field(text, c, b" ", value);
     put_bytes(text, d, b"\n")
 }
 
@@ -85,18 +83,18 @@ fn put_counts(text: &mut [u8], at: usize, r: Report) -> usize
     requires { ⌜ at ≤ length (now text) ⌝ }
     ensures { λ q. ⌜ q ≤ length (now (text .exit)) ⌝ }
 {
-    let a = put_field(text, at, b" ", r.loads as u64);
-    let b = put_field(text, a, b" ", r.load_steps as u64);
-    let c = put_field(text, b, b" ", r.turned_back as u64);
-    put_field(text, c, b" ", r.swaps as u64)
+    let a = put_field(text, at, b" ", r.loads);
+    let b = put_field(text, a, b" ", r.load_steps);
+    let c = put_field(text, b, b" ", r.turned_back as u32);
+    put_field(text, c, b" ", r.swaps)
 }
 
 fn put_end(text: &mut [u8], at: usize, r: Report) -> usize
     requires { ⌜ at ≤ length (now text) ⌝ }
     ensures { λ q. ⌜ q ≤ length (now (text .exit)) ⌝ }
 {
-    let a = put_field(text, at, b"end ", r.accepted as u64);
-    let b = put_field(text, a, b" ", r.refusal as u64);
+    let a = put_field(text, at, b"end ", r.accepted);
+    let b = put_field(text, a, b" ", r.refusal as u32);
     let c = put_counts(text, b, r);
     put_bytes(text, c, b"\n")
 }
@@ -132,7 +130,7 @@ fn bench(machine: Machine, schedule: &[u8], text: &mut [u8]) -> usize
 fn refused(number: u8, text: &mut [u8]) -> usize
     ensures { λ r. ⌜ r ≤ length (now (text .exit)) ⌝ }
 {
-    let a = put_field(text, 0, b"setup ", number as u64);
+    let a = put_field(text, 0, b"setup ", number as u32);
     put_bytes(text, a, b"\n")
 }
 

@@ -1,12 +1,12 @@
--- Laws of `every`, `fillTo` and `within`, some of them one turn of a loop at a time. Assumes nothing.
-use Prim.Native.Nat.{ℕ, zero, suc, _+_, _<_, _≤_}
+-- Laws of `every`, `fillTo` and `within`, some of them one turn of a loop at a time, and of tests. Assumes nothing.
+use Prim.Native.Nat.{ℕ, zero, suc, _+_, _-_, _<_, _≤_}
 use mathlib.Core.Path.{_≡_, refl, sym, _∙_}
 use mathlib.Core.Logic.{_≢_, _⊎_, inl, inr}
 use mathlib.Core.Bool.{Bool, true, false, cond, _&&_, _||_, false≢true}
 use mathlib.Core.List.{List}
 use lib.Dec.{T}
-use lib.ListN.{length, getD, set, length-set}
-use lib.Seq.{getD-set-same, getD-set-other}
+use lib.ListN.{length, getD, set, take, drop, length-set, length-drop}
+use lib.Seq.{getD-set-same, getD-set-other, take-all}
 use native.Mathlib.Numerals.{add-one}
 use native.Mathlib.Omega.{arith}
 use native.Mathlib.Decide.{decLe, decLt, ℕ-discrete}
@@ -110,3 +110,16 @@ pub every-same : (f g : ℕ → Bool) (n : ℕ) → ((i : ℕ) → i < n → f i
 unfolding every
 every-same f g zero h = refl
 every-same f g (suc n) h = rw (h n (omega arith), every-same f g n (λ i l. h i (omega arith)))
+
+-- by a Bool, with what it is
+pub either : (R : Bool → Type 0) (b : Bool) → (b ≡ true → R true) → (b ≡ false → R false) → R b
+either R true f g = f refl
+either R false f g = g refl
+
+-- what holds either way holds of the choice
+pub by-test : {A : Type 0} (R : A → Type 0) (b : Bool) (x y : A) → (b ≡ true → R x) → (b ≡ false → R y) → R (cond b x y)
+by-test R b x y f g = either (λ t. R (cond t x y)) b f g
+
+-- the part of a list from a place on, as a function is handed it
+pub part : {A : Type 0} (l : List A) (at : ℕ) → take (length l - at) (drop at l) ≡ drop at l
+part l at = take-all (length l - at) (drop at l) (omega (arith, length-drop at l))

@@ -1,9 +1,13 @@
 -- Bytes as document 01 has them: each record starts with a two-byte mark, and numbers are little endian.
-use Prim.Native.Nat.{ℕ, _+_, _*_, _/_, _%_}
+use Prim.Native.Nat.{ℕ, _+_, _*_, _/_, _%_, _<_}
 use mathlib.Core.Bool.{Bool, cond, _&&_}
 use mathlib.Core.List.{List, [], _∷_, _++_}
 use lib.Dec.{eqb, leb}
 use lib.ListN.{length, getD, take, drop}
+
+-- each element is a byte
+abbrev pub Bytes : List ℕ → Type 0
+Bytes s = (i : ℕ) → getD s i 0 < 256
 
 abbrev pub setupMark : List ℕ
 setupMark = 0x53 ∷ 0x55 ∷ []
@@ -38,6 +42,6 @@ replyOf n t y = replyMark ++ n ∷ t ∷ littleEndian y
 abbrev pub overlaid : List ℕ → ℕ → List ℕ → List ℕ
 overlaid o at bs = take at o ++ bs ++ drop (at + length bs) o
 
--- o with a reply from place `at` on, where there is room for it
-unfoldable pub withReply : List ℕ → ℕ → ℕ → ℕ → ℕ → List ℕ
-withReply o at n t y = cond (leb (at + 8) (length o)) (overlaid o at (replyOf n t y)) o
+-- the same where o has room for all of them, else o as it was
+unfoldable pub fitted : List ℕ → ℕ → List ℕ → List ℕ
+fitted o at bs = cond (leb (at + length bs) (length o)) (overlaid o at bs) o

@@ -1,7 +1,9 @@
 // Bytes: marks, little-endian numbers, and the reply record.
 ghost use mathlib.Core.Path.{_≡_};
+ghost use Prim.Native.Nat.{_+_};
+ghost use lib.Dec.{leb};
 ghost use lib.ListN.{getD};
-ghost use Rattle.wire.specs.Bytes.{word, wordAt, marked, withReply};
+ghost use Rattle.wire.specs.Bytes.{word, wordAt, marked, littleEndian, replyOf, fitted};
 
 // The two bytes that each record starts with.
 pub const SETUP: [u8; 2] = [0x53, 0x55];
@@ -46,24 +48,49 @@ pub fn starts_with(s: &[u8], mark: [u8; 2]) -> bool
     if a == mark[0] { b == mark[1] } else { false }
 }
 
-// A reply record from place `at` on, where the buffer has room for its 8 bytes; else nothing is written.
-pub fn put_reply(out: &mut [u8], at: usize, number: u8, task: u8, value: u32)
-    ensures { λ _. ⌜ now (out .exit) ≡ withReply (now (out .entry)) at number task value ⌝ }
+// Whether n places from `at` on are within the first `len`.
+pub fn has_room(len: usize, at: usize, n: usize) -> bool
+    ensures { λ r. ⌜ r ≡ leb (at + n) len ⌝ }
 {
-    let n = out.len();
-    if n < 8 {
+    if len < n {
+        return false;
+    }
+    at <= len - n
+}
+
+// A mark from place `at` on; nothing where there is no room for it. The same of what follows.
+pub fn put_mark(out: &mut [u8], at: usize, mark: [u8; 2])
+    ensures { λ _. ⌜ now (out .exit) ≡ fitted (now (out .entry)) at mark ⌝ }
+{
+    if !has_room(out.len(), at, 2) {
         return;
     }
-    if n - 8 < at {
-        return;
-    }
-    let mark = REPLY;
     out[at] = mark[0];
     out[at + 1] = mark[1];
+}
+
+// A number in four bytes, the lowest first.
+pub fn put_word(out: &mut [u8], at: usize, value: u32)
+    ensures { λ _. ⌜ now (out .exit) ≡ fitted (now (out .entry)) at (littleEndian value) ⌝ }
+{
+    if !has_room(out.len(), at, 4) {
+        return;
+    }
+    out[at] = (value % 256) as u8;
+    out[at + 1] = (value / 256 % 256) as u8;
+    out[at + 2] = (value / 65536 % 256) as u8;
+    out[at + 3] = (value / 16777216) as u8;
+}
+
+// A reply record.
+pub fn put_reply(out: &mut [u8], at: usize, number: u8, task: u8, value: u32)
+    ensures { λ _. ⌜ now (out .exit) ≡ fitted (now (out .entry)) at (replyOf number task value) ⌝ }
+{
+    if !has_room(out.len(), at, 8) {
+        return;
+    }
+    put_mark(out, at, REPLY);
     out[at + 2] = number;
     out[at + 3] = task;
-    out[at + 4] = (value % 256) as u8;
-    out[at + 5] = (value / 256 % 256) as u8;
-    out[at + 6] = (value / 65536 % 256) as u8;
-    out[at + 7] = (value / 16777216) as u8;
+    put_word(out, at + 4, value);
 }

@@ -1,18 +1,11 @@
 -- `kemilunda_run_free`: a refused setup leaves the three places; an accepted one is run on what follows it. Assumes nothing.
-use Prim.Native.Nat.{ℕ, _-_}
-use mathlib.Core.Path.{_≡_, sym, ap, _∙_}
-use mathlib.Core.List.{List}
-use native.Mathlib.Omega.{arith}
-use lib.ListN.{length, take, drop, length-drop}
-use lib.Seq.{take-all}
+use Prim.Native.Nat.{_-_}
+use mathlib.Core.Path.{sym, ap, _∙_}
+use Rattle.tallies.proofs.Lists.{part}
 use Rattle.cells.proofs.Used.{setup-uses}
 use borrow.Author.Needs.{needs}
 use Rattle.kemilunda.proofs.kemilunda_run_free.Statement.{statement}
 use Rattle.kemilunda.proofs.kemilunda_run_free.Tie as tie
-
--- what follows the setup, to its end
-rest : (s : List ℕ) (at : ℕ) → take (length s - at) (drop at s) ≡ drop at s
-rest s at = take-all (length s - at) (drop at s) (omega (arith, length-drop at s))
 
 setup-requires : tie.Need-setup-requires
 setup-requires c κs = search needs
@@ -58,7 +51,7 @@ same-length-2 c = search needs
 returns-2 : tie.Need-returns-2
 returns-2 c = let setup = c .before .before .before .before .before .before .before .before .before .before .before .before .before .before .setup .ensures in
     let ready = c .before .before .before .before .before .before .before .before .before .before .before .a2 .given .1 in
-    let e = rest (c .before .before .before .before .before .before .before .before .before .before .before .before .before .before .before .before .before .before .args .input .now) (c .before .before .before .before .before .before .before .before .before .before .before .a2 .given .0 .0) in
+    let e = part (c .before .before .before .before .before .before .before .before .before .before .before .before .before .before .before .before .before .before .args .input .now) (c .before .before .before .before .before .before .before .before .before .before .before .a2 .given .0 .0) in
     let ran = c .before .before .before .before .before .before .run-free .ensures in
     (rw (← setup, ready), rw (← setup, ready, ← e) (ran .1), rw (← setup, ready, ← e) (ran .2), rw (c .six .ensures, ← setup, ready, ← e, ran .0))
 

@@ -3,8 +3,9 @@ use Prim.Native.Nat.{_*_, _<_}
 use mathlib.Core.Path.{sym, _∙_}
 use lib.ListN.{length}
 use borrow.Author.Tests.{lt-ltb, le-ltb, le-leb, lt-leb, not-true, not-false}
-use Rattle.runs.specs.Run.{entriesIn, entriesOf, repliesFrom, ranOf, repliesOf, bufferOf, notedOf}
-use Rattle.runs.proofs.Laws.{over-front}
+use Rattle.entries.specs.Schedule.{entriesIn, entriesOf}
+use Rattle.runs.specs.Run.{repliesFrom, ranOf, repliesOf, bufferOf, notedOf}
+use Rattle.wire.proofs.Laws.{over-front}
 use borrow.Author.Needs.{needs}
 use Rattle.runs.proofs.run_free.Statement.{statement}
 use Rattle.runs.proofs.run_free.Tie as tie

@@ -1,6 +1,6 @@
 -- `told`: the reply is laid over the buffer, and the entry is counted or ends the run. Assumes nothing.
 use mathlib.Core.Path.{_∙_}
-use Rattle.wire.proofs.Laws.{reply-fits}
+use Rattle.wire.proofs.Laws.{has-room}
 use borrow.Author.Needs.{needs}
 use Rattle.runs.proofs.told.Statement.{statement}
 use Rattle.runs.proofs.told.Tie as tie
@@ -39,13 +39,13 @@ same-length : tie.Need-same-length
 same-length c = search needs
 
 returns : tie.Need-returns
-returns c = (rw (c .before .before .before .before .before .before .e .given .1, c .before .before .before .before .refusal-number .ensures), c .before .before .put-reply .ensures ∙ reply-fits _ _ _ _ _ (c .before .before .before .before .before .before .before .before .before .pre .0) ∙ rw (c .before .before .before .before .before .before .e .given .1, c .before .before .before .before .refusal-number .ensures))
+returns c = (rw (c .before .before .before .before .before .before .e .given .1, c .before .before .before .before .refusal-number .ensures), c .before .before .put-reply .ensures ∙ has-room _ _ _ (c .before .before .before .before .before .before .before .before .before .pre .0) ∙ rw (c .before .before .before .before .before .before .e .given .1, c .before .before .before .before .refusal-number .ensures))
 
 same-length-2 : tie.Need-same-length-2
 same-length-2 c = search needs
 
 returns-2 : tie.Need-returns-2
-returns-2 c = (rw (c .before .before .before .before .before .before .before .before .before .e2 .given .1) (c .counted .ensures), c .before .before .before .put-reply2 .ensures ∙ reply-fits _ _ _ _ _ (c .before .before .before .before .before .before .before .before .before .before .before .before .pre .0) ∙ rw (c .before .before .before .before .before .before .before .before .before .e2 .given .1, c .before .before .before .before .before .reply-number .ensures, c .before .before .before .before .reply-value .ensures))
+returns-2 c = (rw (c .before .before .before .before .before .before .before .before .before .e2 .given .1) (c .counted .ensures), c .before .before .before .put-reply2 .ensures ∙ has-room _ _ _ (c .before .before .before .before .before .before .before .before .before .before .before .before .pre .0) ∙ rw (c .before .before .before .before .before .before .before .before .before .e2 .given .1, c .before .before .before .before .before .reply-number .ensures, c .before .before .before .before .reply-value .ensures))
 
 pub told-spec : {M : Type 1} → statement M
 told-spec =

@@ -1,120 +1,96 @@
--- `put_reply`: no room, or the eight bytes. Assumes nothing.
-use borrow.Author.Needs.{needs}
+-- `put_reply`: no room, or the mark, two bytes and the value behind each other. Assumes nothing.
+use mathlib.Core.Path.{_≡_, refl, sym, ap, _∙_}
+use mathlib.Core.List.{List, [], _∷_}
 use native.Mathlib.Omega.{arith}
-use Prim.Native.Nat.{_+_, _≤_}
-use lib.ListN.{length, length-set}
-use borrow.Author.Tests.{le-leb, lt-leb}
-use Rattle.wire.specs.Bytes.{withReply}
-use Rattle.wire.proofs.Laws.{eight}
+use Prim.Native.Nat.{ℕ, _+_, _≤_}
+use lib.ListN.{length, set, length-set}
+use borrow.Author.Tests.{leb-true, leb-false, not-true, not-false}
+use Rattle.wire.specs.Bytes.{replyMark, littleEndian, overlaid, fitted}
+use Rattle.wire.proofs.Laws.{no-room, two, framed, fitted-length}
+use borrow.Author.Needs.{needs}
 use Rattle.wire.proofs.put_reply.Statement.{statement}
 use Rattle.wire.proofs.put_reply.Tie as tie
 
+has-room-requires : tie.Need-has-room-requires
+has-room-requires c κs = search needs
+
 returns : tie.Need-returns
-unfolding withReply
-returns c = let a = c .before .args in rw (lt-leb (a .at + 8) (length (a .out .now)) (omega arith))
+returns c =
+    let a = c .before .before .before .args in
+    sym (no-room (a .out .now) (a .at) _ (leb-false (a .at + 8) _ (sym (c .before .has-room .ensures) ∙ not-true _ (c .if1 .taken))))
 
-returns-2 : tie.Need-returns-2
-unfolding withReply
-returns-2 c = let a = c .before .before .args in rw (lt-leb (a .at + 8) (length (a .out .now)) (omega arith))
-
-array-read-out : tie.Need-array-read-out
-array-read-out c = search needs
-
-slice-write-out : tie.Need-slice-write-out
-slice-write-out c = search needs
-
-array-read-out-2 : tie.Need-array-read-out-2
-array-read-out-2 c = search needs
+put-mark-requires : tie.Need-put-mark-requires
+put-mark-requires c κs = search needs
 
 add-out : tie.Need-add-out
-add-out c = search needs
+add-out c =
+    let e = c .before .before .before .before in
+    let a = e .before .before .before .args in
+    let room : a .at + 8 ≤ length (a .out .now) = leb-true _ _ (sym (e .before .has-room .ensures) ∙ not-false _ (e .if1 .left)) in
+    omega (arith, room)
 
-slice-write-out-2 : tie.Need-slice-write-out-2
-slice-write-out-2 c = simp length-set (omega arith)
+slice-write-out : tie.Need-slice-write-out
+slice-write-out c =
+    let e = c .before .before .before .before in
+    let a = e .before .before .before .args in
+    let room : a .at + 8 ≤ length (a .out .now) = leb-true _ _ (sym (e .before .has-room .ensures) ∙ not-false _ (e .if1 .left)) in
+    let long : length (c .before .before .put-mark .last .0) ≡ length (a .out .now) = ap length (c .before .before .put-mark .ensures) ∙ fitted-length (a .out .now) (a .at) _ in
+    omega (arith, room, long)
 
 add-out-2 : tie.Need-add-out-2
-add-out-2 c = search needs
+add-out-2 c =
+    let e = c .before .before .before .before in
+    let a = e .before .before .before .args in
+    let room : a .at + 8 ≤ length (a .out .now) = leb-true _ _ (sym (e .before .has-room .ensures) ∙ not-false _ (e .if1 .left)) in
+    omega (arith, room)
 
-slice-write-out-3 : tie.Need-slice-write-out-3
-slice-write-out-3 c = simp length-set (omega arith)
+slice-write-out-2 : tie.Need-slice-write-out-2
+slice-write-out-2 c =
+    let e = c .before .before .before .before in
+    let a = e .before .before .before .args in
+    let room : a .at + 8 ≤ length (a .out .now) = leb-true _ _ (sym (e .before .has-room .ensures) ∙ not-false _ (e .if1 .left)) in
+    let long : length (c .before .before .put-mark .last .0) ≡ length (a .out .now) = ap length (c .before .before .put-mark .ensures) ∙ fitted-length (a .out .now) (a .at) _ in
+    rw length-set (omega (arith, room, long))
 
-add-out-3 : tie.Need-add-out-3
-add-out-3 c = search needs
+add-put-word : tie.Need-add-put-word
+add-put-word c =
+    let e = c .before .before .before .before .before in
+    let a = e .before .before .before .args in
+    let room : a .at + 8 ≤ length (a .out .now) = leb-true _ _ (sym (e .before .has-room .ensures) ∙ not-false _ (e .if1 .left)) in
+    omega (arith, room)
 
-slice-write-out-4 : tie.Need-slice-write-out-4
-slice-write-out-4 c = simp length-set (omega arith)
+put-word-requires : tie.Need-put-word-requires
+put-word-requires c κs = search needs
 
-cast-out : tie.Need-cast-out
-cast-out c = search needs
-
-add-out-4 : tie.Need-add-out-4
-add-out-4 c = search needs
-
-slice-write-out-5 : tie.Need-slice-write-out-5
-slice-write-out-5 c = simp length-set (omega arith)
-
-cast-out-2 : tie.Need-cast-out-2
-cast-out-2 c = search needs
-
-add-out-5 : tie.Need-add-out-5
-add-out-5 c = search needs
-
-slice-write-out-6 : tie.Need-slice-write-out-6
-slice-write-out-6 c = simp length-set (omega arith)
-
-cast-out-3 : tie.Need-cast-out-3
-cast-out-3 c = search needs
-
-add-out-6 : tie.Need-add-out-6
-add-out-6 c = search needs
-
-slice-write-out-7 : tie.Need-slice-write-out-7
-slice-write-out-7 c = simp length-set (omega arith)
-
-cast-out-4 : tie.Need-cast-out-4
-cast-out-4 c = search needs
-
-add-out-7 : tie.Need-add-out-7
-add-out-7 c = search needs
-
-slice-write-out-8 : tie.Need-slice-write-out-8
-slice-write-out-8 c = simp length-set (omega arith)
+returns-2 : tie.Need-returns-2
+returns-2 c =
+    let e = c .before .before .before .before .before .before .before .before in
+    let a = e .before .before .before .args in
+    let room : a .at + 8 ≤ length (a .out .now) = leb-true _ _ (sym (e .before .has-room .ensures) ∙ not-false _ (e .if1 .left)) in
+    let long : length (c .before .before .before .before .before .before .put-mark .last .0) ≡ length (a .out .now) = ap length (c .before .before .before .before .before .before .put-mark .ensures) ∙ fitted-length (a .out .now) (a .at) _ in
+    let m = c .before .before .before .before .before .before .put-mark .last .0 in
+    let w : c .before .before .put-word .last .0 ≡ fitted (set (set m (a .at + 2) (a .number)) (a .at + 3) (a .task)) (a .at + 4) (littleEndian (a .value)) = c .before .before .put-word .ensures in
+    let t : set (set m (a .at + 2) (a .number)) (a .at + 3) (a .task) ≡ overlaid m (a .at + 2) (a .number ∷ a .task ∷ []) = two m (a .at + 2) (a .at + 3) (a .number) (a .task) (omega arith) (rw long (omega (arith, room))) in
+    w ∙ ap (λ (o : List ℕ). fitted o (a .at + 4) (littleEndian (a .value))) t
+    ∙ rw (c .before .before .before .before .before .before .put-mark .ensures) (framed (a .out .now) (a .at) (a .at + 2) (a .at + 4) replyMark (a .number ∷ a .task ∷ []) (littleEndian (a .value)) refl (omega arith) (omega (arith, room)))
 
 same-length : tie.Need-same-length
-same-length c = simp length-set
-
-returns-3 : tie.Need-returns-3
-unfolding withReply
-returns-3 c = let a = c .before .before .args in
-    let room : a .at + 8 ≤ length (a .out .now) = omega arith in
-    rw (le-leb (a .at + 8) (length (a .out .now)) room) (eight (a .out .now) (a .at) _ _ _ _ _ _ _ _ room)
+same-length c =
+    let a = c .before .before .before .before .before .before .before .before .before .before .before .args in
+    ap length (returns-2 c) ∙ fitted-length (a .out .now) (a .at) _
 
 pub put-reply-spec : {M : Type 1} → statement M
 put-reply-spec =
     tie.close
     (tie.spec
+    has-room-requires
     returns
-    returns-2
-    array-read-out
-    slice-write-out
-    array-read-out-2
+    put-mark-requires
     add-out
-    slice-write-out-2
+    slice-write-out
     add-out-2
-    slice-write-out-3
-    add-out-3
-    slice-write-out-4
-    cast-out
-    add-out-4
-    slice-write-out-5
-    cast-out-2
-    add-out-5
-    slice-write-out-6
-    cast-out-3
-    add-out-6
-    slice-write-out-7
-    cast-out-4
-    add-out-7
-    slice-write-out-8
+    slice-write-out-2
+    add-put-word
+    put-word-requires
     same-length
-    returns-3)
+    returns-2)

@@ -1,0 +1,10 @@
+pub mod Parts
+pub mod Lines
+pub mod Importing
+pub mod Exporting
+pub mod Fates
+pub mod RoundTrip
+pub mod Scan
+pub mod Going
+pub mod Pieces
+pub mod Unique
