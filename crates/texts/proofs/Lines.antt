@@ -13,15 +13,11 @@ use Rattle.digits.specs.Decimal.{isNumber, valueOf, decimal}
 use Rattle.digits.proofs.Laws.{number-digits, number-long, decimal-number, decimal-value, value-decimal, byte-length, word-length}
 use Rattle.entries.specs.Entry.{entryBytes}
 use Rattle.texts.specs.Types.{Entry, Refusal, NotALine, TooLarge}
-use Rattle.texts.specs.Line.{comma, newline, Line, lineOf, upTo, past, taskText, kindText, cellText, valueText, isLine, fits, entryIn}
+use Rattle.texts.specs.Line.{comma, newline, bare, Line, lineOf, upTo, past, taskText, kindText, cellText, valueText, isLine, fits, entryIn}
 use Rattle.texts.specs.Made.{Made, good, bad}
 use Rattle.texts.specs.Text.{lineMade}
 use Rattle.texts.specs.Form.{Fits, Fitting, entryFrom}
 use Rattle.texts.proofs.Parts.{Free, free-append, digits-free, up-to, past-it, past-shorter, parted-past}
-
--- a line without its newline
-abbrev pub bare : List ℕ → List ℕ → List ℕ → List ℕ → List ℕ
-bare task kind cell value = task ++ comma ∷ kind ++ comma ∷ cell ++ comma ∷ value
 
 -- the four texts that commas part are given back
 module _ (t k c v : List ℕ) (ht : isNumber t ≡ true) (hk : isNumber k ≡ true) (hc : isNumber c ≡ true) where

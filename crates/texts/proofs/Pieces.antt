@@ -18,8 +18,8 @@ use Rattle.entries.proofs.Laws.{entry-front}
 use Rattle.texts.specs.Types.{NotALine, TooLarge, NotZero, TooShort, Entry, EntryRead, Whole, Refused, LineRead, ALine, BadLine}
 use Rattle.texts.specs.Line.{comma, newline, upTo, past, isLine, fits, entryIn, lineOf}
 use Rattle.texts.specs.Made.{bad, behind, then}
-use Rattle.texts.specs.Text.{newlines, lineMade, bytesMade, spareMade, textMade}
-use Rattle.texts.specs.Steps.{isClosed, lineIn, lineAt, plainOf}
+use Rattle.texts.specs.Text.{newlines, lineMade, bytesMade, plainOf, plainMade, textMade, plainOf}
+use Rattle.texts.specs.Steps.{isClosed, lineIn, lineAt}
 use Rattle.texts.proofs.Parts.{up-to-free, parted}
 use Rattle.texts.proofs.Importing.{open-bad, made-more, made-last, newlines-more}
 use Rattle.texts.proofs.Exporting.{from-more, from-short}
@@ -92,10 +92,10 @@ entry-tells s at h =
     t : List ℕ
     t = drop at s
 
-    made : 10 ≤ length t → textMade t ≡ then (spareMade (entryOf t)) (textMade (drop (at + 10) s))
+    made : 10 ≤ length t → textMade t ≡ then (plainMade (plainOf (entryOf t))) (textMade (drop (at + 10) s))
     made l =
         ap textMade (sym (take-append-drop 10 t)) ∙ from-more (take 10 t) (drop 10 t) (length-take-le 10 t l)
-        ∙ ap (λ (r : EntryRead). then (spareMade r) (textMade (drop 10 t))) (entry-front t) ∙ ap (λ (u : List ℕ). then (spareMade (entryOf t)) (textMade u)) (drop-drop 10 at s)
+        ∙ ap (λ (r : EntryRead). then (plainMade (plainOf r)) (textMade (drop 10 t))) (entry-front t) ∙ ap (λ (u : List ℕ). then (plainMade (plainOf (entryOf t))) (textMade u)) (drop-drop 10 at s)
 
     spare : 10 ≤ length t → (e : Entry) → entryOf t ≡ Whole e → (b : Bool) → eqb (e .spare) 0 ≡ b → Tells s at (cond b (Whole e) (Refused NotZero))
     spare l e q true p = (made l ∙ rw (q, p), omega (arith, length-drop at s))

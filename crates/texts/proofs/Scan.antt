@@ -15,10 +15,10 @@ use Rattle.tallies.proofs.Lists.{both, either}
 use Rattle.digits.specs.Decimal.{isDigit, allDigits, isNumber, valueOf, lead, capped, numberAt}
 use Rattle.digits.proofs.Laws.{number-digits}
 use Rattle.texts.specs.Types.{Number, NoNumber, LineRead, ALine, BadLine, NotALine, TooLarge}
-use Rattle.texts.specs.Line.{comma, newline, Line, upTo, past, isLine, fits}
+use Rattle.texts.specs.Line.{comma, newline, bare, small, entryWith, Line, upTo, past, isLine, fits}
 use Rattle.texts.specs.Steps.{closedBy, fieldAt, sized, isClosed, lineIn, lineAt}
 use Rattle.texts.proofs.Parts.{up-to, up-to-none, parted}
-use Rattle.texts.proofs.Lines.{bare, bareOf, bare-of, bare-line, bare-free, line-task, line-kind, line-cell, line-value, is-line}
+use Rattle.texts.proofs.Lines.{bareOf, bare-of, bare-line, bare-free, line-task, line-kind, line-cell, line-value, is-line}
 
 -- the digits that a text starts with, up to a byte that is none
 lead-of : (y : List ℕ) (c : ℕ) (u : List ℕ) → allDigits y ≡ true → isDigit c ≡ false → lead (y ++ c ∷ u) ≡ y
@@ -120,8 +120,8 @@ of-field close s at v next = number (isNumber x) refl
     number false n h = absurd (number-none v next (sym h))
 
 -- sizes are told as well from values that are cut off
-small : (v n : ℕ) → n < 4294967296 → leb (capped v) n ≡ leb v n
-small v n h =
+capped-size : (v n : ℕ) → n < 4294967296 → leb (capped v) n ≡ leb v n
+capped-size v n h =
     elim (decLe v 4294967296) [
       | yes l ↦ rw (min-eq-left l)
       | no l ↦ rw (lt-leb (capped v) n (omega arith), lt-leb v n (omega arith))
@@ -130,9 +130,9 @@ small v n h =
 pub sized-capped : (a b c d n : ℕ) → sized (capped a) (capped b) (capped c) (capped d) n ≡ sized a b c d n
 unfolding sized
 sized-capped a b c d n =
-    rw (small a 255 (omega arith), small b 255 (omega arith), small c 255 (omega arith), small d 4294967295 (omega arith))
-    (either (λ t. leb a 255 && leb b 255 && leb c 255 && leb d 4294967295 ≡ t → cond t (line (capped a) (capped b) (capped c) (capped d)) none ≡ cond t (line a b c d) none)
-    (leb a 255 && leb b 255 && leb c 255 && leb d 4294967295)
+    rw (capped-size a 255 (omega arith), capped-size b 255 (omega arith), capped-size c 255 (omega arith), capped-size d 4294967295 (omega arith))
+    (either (λ t. small a b c d ≡ t → cond t (line (capped a) (capped b) (capped c) (capped d)) none ≡ cond t (line a b c d) none)
+    (small a b c d)
     (λ h q. let p = both (leb a 255 && leb b 255 && leb c 255) (leb d 4294967295) q in
     let r = both (leb a 255 && leb b 255) (leb c 255) (p .0) in
     let o = both (leb a 255) (leb b 255) (r .0) in
@@ -140,7 +140,7 @@ sized-capped a b c d n =
     (λ h q. refl) refl)
   where
     line : ℕ → ℕ → ℕ → ℕ → LineRead
-    line a b c d = ALine (record { task = record { 0 = a }; kind = b; cell = record { 0 = c }; spare = 0; value = d }) n
+    line a b c d = ALine (entryWith a b c d) n
 
     none : LineRead
     none = BadLine TooLarge

@@ -9,7 +9,7 @@ use Rattle.wire.specs.Bytes.{entryMark, marked}
 use Rattle.digits.specs.Decimal.{valueOf}
 use Rattle.entries.specs.Entry.{entryBytes}
 use Rattle.texts.specs.Types.{Entry, NotZero, WrongMark, TooShort, NotALine, TooLarge}
-use Rattle.texts.specs.Line.{newline, Line}
+use Rattle.texts.specs.Line.{newline, Line, entryWith}
 use Rattle.texts.specs.Made.{Made, good, bad}
 use Rattle.texts.specs.Text.{newlines}
 
@@ -23,9 +23,9 @@ pub record Fits (task kind cell value : List ℕ) : Type 0 where
 abbrev pub Fitting : {w : List ℕ} → Line w → Type 0
 Fitting l = Fits (l .task) (l .kind) (l .cell) (l .value)
 
--- the entry that a line stands for: its four values, and a zero byte
+-- the entry that a line stands for
 abbrev pub entryFrom : {w : List ℕ} → Line w → Entry
-entryFrom l = record { task = record { 0 = valueOf (l .task) }; kind = valueOf (l .kind); cell = record { 0 = valueOf (l .cell) }; spare = 0; value = valueOf (l .value) }
+entryFrom l = entryWith (valueOf (l .task)) (valueOf (l .kind)) (valueOf (l .cell)) (valueOf (l .value))
 
 -- t is n lines that fit, one after the other, and s is their entries' bytes
 pub data Lines : ℕ → List ℕ → List ℕ → Type 0 where

@@ -13,9 +13,13 @@ comma = 0x2C
 abbrev pub newline : ℕ
 newline = 0x0A
 
--- four texts with single commas between them, closed by one newline
+-- four texts with single commas between them
+abbrev pub bare : List ℕ → List ℕ → List ℕ → List ℕ → List ℕ
+bare task kind cell value = task ++ comma ∷ kind ++ comma ∷ cell ++ comma ∷ value
+
+-- and closed by one newline
 abbrev pub joined : List ℕ → List ℕ → List ℕ → List ℕ → List ℕ
-joined task kind cell value = task ++ comma ∷ kind ++ comma ∷ cell ++ comma ∷ value ++ newline ∷ []
+joined task kind cell value = bare task kind cell value ++ newline ∷ []
 
 -- the form: which texts are a line
 pub record Line (w : List ℕ) : Type 0 where
@@ -60,16 +64,15 @@ unfoldable pub isLine : List ℕ → Bool
 isLine w = isNumber (taskText w) && isNumber (kindText w) && isNumber (cellText w) && isNumber (valueText w)
 
 -- the first three are bytes, and the value has 32 bits
-unfoldable pub fits : List ℕ → Bool
-fits w = leb (valueOf (taskText w)) 255 && leb (valueOf (kindText w)) 255 && leb (valueOf (cellText w)) 255 && leb (valueOf (valueText w)) 4294967295
+abbrev pub small : ℕ → ℕ → ℕ → ℕ → Bool
+small task kind cell value = leb task 255 && leb kind 255 && leb cell 255 && leb value 4294967295
 
--- the entry of a line that fits
+unfoldable pub fits : List ℕ → Bool
+fits w = small (valueOf (taskText w)) (valueOf (kindText w)) (valueOf (cellText w)) (valueOf (valueText w))
+
+-- the entry of four numbers, with a zero byte; and that of a line that fits
+abbrev pub entryWith : ℕ → ℕ → ℕ → ℕ → Entry
+entryWith task kind cell value = record { task = record { 0 = task }; kind = kind; cell = record { 0 = cell }; spare = 0; value = value }
+
 abbrev pub entryIn : List ℕ → Entry
-entryIn w =
-    record {
-      task = record { 0 = valueOf (taskText w) };
-      kind = valueOf (kindText w);
-      cell = record { 0 = valueOf (cellText w) };
-      spare = 0;
-      value = valueOf (valueText w);
-    }
+entryIn w = entryWith (valueOf (taskText w)) (valueOf (kindText w)) (valueOf (cellText w)) (valueOf (valueText w))

@@ -1,12 +1,12 @@
--- What the private functions answer: a number and its closing byte, a line at a place, an entry whose sixth byte is zero, how many bytes are made.
+-- What the private functions answer: a number and its closing byte, a line at a place, how many bytes are made.
 use Prim.Native.Nat.{ℕ, _+_}
 use mathlib.Core.Bool.{Bool, true, false, cond, _&&_}
 use mathlib.Core.List.{List}
-use lib.Dec.{eqb, leb, ltb}
+use lib.Dec.{eqb, ltb}
 use lib.ListN.{length, getD, drop}
 use Rattle.digits.specs.Decimal.{numberAt}
-use Rattle.texts.specs.Types.{NumberRead, Number, NoNumber, EntryRead, Whole, Refused, NotZero, NotALine, TooLarge, TextAnswer, Written, NotWritten, LineRead, ALine, BadLine}
-use Rattle.texts.specs.Line.{newline, upTo, isLine, fits, entryIn}
+use Rattle.texts.specs.Types.{NumberRead, Number, NoNumber, NotALine, TooLarge, TextAnswer, Written, NotWritten, LineRead, ALine, BadLine}
+use Rattle.texts.specs.Line.{newline, upTo, isLine, small, fits, entryWith, entryIn}
 use Rattle.texts.specs.Made.{Made, good, bad}
 
 -- a number that the byte `close` follows: its value, and the place behind that byte
@@ -20,8 +20,7 @@ fieldAt close s at = closedBy close s (numberAt s at)
 -- the entry of four values, where they fit, and the place behind its line
 unfoldable pub sized : ℕ → ℕ → ℕ → ℕ → ℕ → LineRead
 sized task kind cell value next =
-    cond (leb task 255 && leb kind 255 && leb cell 255 && leb value 4294967295)
-    (ALine (record { task = record { 0 = task }; kind = kind; cell = record { 0 = cell }; spare = 0; value = value }) next)
+    cond (small task kind cell value) (ALine (entryWith task kind cell value) next)
     (BadLine TooLarge)
 
 -- t has a newline
@@ -37,11 +36,6 @@ unfoldable pub lineAt : List ℕ → ℕ → LineRead
 lineAt s at =
     cond (isClosed (drop at s) && isLine (upTo newline (drop at s))) (lineIn (upTo newline (drop at s)) (at + length (upTo newline (drop at s)) + 1))
     (BadLine NotALine)
-
--- an entry whose sixth byte is zero
-abbrev pub plainOf : EntryRead → EntryRead
-plainOf (Refused r) = Refused r
-plainOf (Whole e) = cond (eqb (e .spare) 0) (Whole e) (Refused NotZero)
 
 -- how many bytes are made
 abbrev pub lengthOf : Made → TextAnswer

@@ -54,13 +54,18 @@ imported t = cond (ltb 6553 (newlines t)) (bad TooLong) (bytesMade t)  -- 23
 
 -- Export.
 
--- a line from an entry's bytes; only 20, 19 and the sixth byte are tested
-abbrev pub spareMade : EntryRead → Made
-spareMade (Refused r) = bad r
-spareMade (Whole e) = cond (not (eqb (e .spare) 0)) (bad NotZero) (good (lineOf e))  -- 15
+-- an entry whose sixth byte is zero; nothing else is tested beside 20 and 19
+abbrev pub plainOf : EntryRead → EntryRead
+plainOf (Refused r) = Refused r
+plainOf (Whole e) = cond (eqb (e .spare) 0) (Whole e) (Refused NotZero)  -- 15
+
+-- a line from an entry's bytes
+abbrev pub plainMade : EntryRead → Made
+plainMade (Refused r) = bad r
+plainMade (Whole e) = good (lineOf e)
 
 abbrev pub entryMade : List ℕ → Made
-entryMade b = spareMade (entryOf b)
+entryMade b = plainMade (plainOf (entryOf b))
 
 -- text from all entries
 abbrev pub textMade : List ℕ → Made

@@ -17,8 +17,8 @@ ghost use Rattle.digits.specs.Decimal.{decimal};
 ghost use Rattle.entries.specs.Entry.{entryOf};
 ghost use Rattle.texts.specs.Line.{newline, lineOf};
 ghost use Rattle.texts.specs.Made.{bytesOf, laid, answered, textNumber, textBytes};
-ghost use Rattle.texts.specs.Text.{newlines, bytesMade, imported, textMade, exported};
-ghost use Rattle.texts.specs.Steps.{fieldAt, sized, lineAt, plainOf, lengthOf, isGood};
+ghost use Rattle.texts.specs.Text.{newlines, bytesMade, imported, plainOf, textMade, exported};
+ghost use Rattle.texts.specs.Steps.{fieldAt, sized, lineAt, lengthOf, isGood};
 
 // How many bytes were written, or why none was.
 pub enum TextAnswer {

@@ -8,8 +8,7 @@ use lib.ListN.{length}
 use Rattle.tallies.proofs.Lists.{part}
 use Rattle.entries.specs.Entry.{entryOf}
 use Rattle.texts.specs.Line.{lineOf}
-use Rattle.texts.specs.Text.{textMade}
-use Rattle.texts.specs.Steps.{plainOf}
+use Rattle.texts.specs.Text.{textMade, plainOf}
 use Rattle.texts.proofs.Going.{Checking, check-starts, check-on, check-stops, check-ends}
 use Rattle.texts.proofs.Pieces.{Tells, entry-tells}
 use Rattle.texts.proofs.Exporting.{nothing-from}

@@ -7,8 +7,7 @@ use Prim.Native.Nat.{ℕ, _+_, _-_}
 use Rattle.tallies.proofs.Lists.{part}
 use Rattle.entries.specs.Entry.{entryOf}
 use Rattle.texts.specs.Line.{lineOf}
-use Rattle.texts.specs.Text.{textMade}
-use Rattle.texts.specs.Steps.{plainOf}
+use Rattle.texts.specs.Text.{textMade, plainOf}
 use Rattle.texts.proofs.Going.{Writing, write-starts, write-room, write-on, write-stops, write-ends}
 use Rattle.texts.proofs.Pieces.{Tells, entry-tells}
 use Rattle.texts.proofs.Exporting.{nothing-from}
