@@ -44,10 +44,12 @@ size_t kemilunda_setup_bytes(const uint8_t *input, size_t input_size);
  *    0  the call has begun, or moved on
  *    1  the load has finished, with its value
  *    2  the store took
- *    3  the store is lost
+ *    3  the store is lost: another one took since the task's load; or, at once, the
+ *       task has no link on that cell, being idle or linked to another, and
+ *       nothing changes
  *    4  the link is released
  *    5  good: no store to the cell took since the task's load
- *    6  gone: one did; the link stays until a store or release ends it
+ *    6  gone: one did; the link stays until a store to the cell or a release ends it
  *
  * or the entry's refusal:
  *
@@ -55,10 +57,10 @@ size_t kemilunda_setup_bytes(const uint8_t *input, size_t input_size);
  *   13  no such kind
  *   14  no such cell, in a load or store
  *   15  one of the zeros above is something else
- *   16  the call can't begin now: a load wants an idle task, the others one
- *       that is linked
+ *   16  the call can't begin now: a load wants an idle task, a store one with no
+ *       call running, a release or validate one that is linked
  *   17  the task has no step to make, being idle or linked
- *   18  the store names a cell that the task is not linked to
+ *   18  no longer given
  *   19  the first two bytes are not 45 4E
  *   20  the last entry is cut
  *

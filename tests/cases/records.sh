@@ -45,9 +45,10 @@ release() { entry "$1" 3 0 0; }
 validate() { entry "$1" 4 0 0; }
 
 # The inputs that are also kept in examples/: document 01's cases, one for the
-# validate of document 02's item 1 and one for S3 as its item 2 has it.
+# validate of document 02's item 1, one for S3 as its item 2 has it and one for
+# the stores without a link of its item 5.
 # shellcheck disable=SC2034
-examples="case03 case09 case10 case11 case12 case_validate case_left"
+examples="case03 case09 case10 case11 case12 case_validate case_left case_restart"
 
 # one task loads 7 and stores 9
 case03() {
@@ -113,4 +114,15 @@ case_left() {
     store 1 0 9; go 1 3
     release 0; go 0
     go 1 4
+}
+
+# after a restart no task has a link: task 0 stores to both cells in vain, then
+# loads and stores; task 1 loads what that store left
+case_restart() {
+    setup 2 2 6 7 8
+    store 0 0 9
+    store 0 1 9
+    load 0 0; go 0 4
+    store 0 0 9; go 0 3
+    load 1 0; go 1 4
 }

@@ -4,9 +4,10 @@
  * Runs the library for C and the second program on one random input a seed,
  * in this process, with buffers of several sizes, and compares all that the
  * header promises: results, numbers, replies, free nodes and the bytes that are
- * left alone.  The second program counts the free nodes one by one.  Exit
- * status: 0 all equal and everything reachable met, 1 differences, 2 could not
- * run, 3 all equal but something reachable never met.
+ * left alone.  The second program counts the free nodes one by one.  A difference
+ * is also an answer of 18, which the header says is given no more.  Exit status:
+ * 0 all equal and everything reachable met, 1 differences, 2 could not run, 3 all
+ * equal but something reachable never met.
  */
 #include "../random/coverage.h"
 #include "../random/driver.h"
@@ -203,6 +204,22 @@ static bool buffers_differ(const struct trial *t, const struct outcome *library,
            wrote_elsewhere(t, free_nodes, library->free_nodes, entries);
 }
 
+/* Of an outcome that both have; a run's refusal is its last reply as well. */
+static bool both_gave_18(const struct trial *t, const struct outcome *o,
+                         size_t *last)
+{
+    size_t entries = replies_due(o), i = 0;
+
+    while (i < entries && o->replies[MARGIN + REPLY_BYTES * i + 2] != UNUSED)
+        i++;
+    if (i == entries && o->result != UNUSED)
+        return false;
+    print_trial(t);
+    printf("both give 18\n");
+    *last = i + 1;
+    return true;
+}
+
 /* Calls of kemilunda_run_free -------------------------------------------- */
 
 /* By the room that FREE_NODES has, where there are answers and where not. */
@@ -288,7 +305,8 @@ static bool trial_differs(struct tally *tally, const struct trial *t,
 
     found = differ(t, "result", library.result, second.result);
     found |= numbers_differ(t, &library, &second);
-    return buffers_differ(t, &library, &second, last) || found;
+    return buffers_differ(t, &library, &second, last) || found ||
+           both_gave_18(t, &library, last);
 }
 
 static bool runs_differ(struct tally *tally, struct trial t, size_t room,

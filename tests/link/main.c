@@ -2,8 +2,9 @@
  * What a C program has to do to use the proved step bench: one header, one
  * archive, buffers of its own.  Prints document 01's case 3 from its replies,
  * what becomes of a setup and of a reply buffer that are refused, what a
- * validate in place of the store finds, how many nodes are free after each entry
- * of cases 3 and 10, and case 3's schedule as text.
+ * validate in place of the store finds, how stores without a link go after a
+ * restart, how many nodes are free after each entry of cases 3 and 10, and case
+ * 3's schedule as text.
  */
 #include <kemilunda.h>
 #include <stdio.h>
@@ -16,6 +17,7 @@ enum {
     SETUP = 10, /* bytes, those of a setup with one cell */
     LINE = 23, /* the most bytes that a line has */
     MOST = 22, /* entries, those of case 10 */
+    RESTARTED = 16, /* entries, those after a restart */
     POOL = 4, /* where the size of the pool stands in a setup */
     STORE = 60, /* where the store's entry begins */
     KIND = 3,
@@ -39,18 +41,29 @@ static const uint8_t CASE_3[] = {
     0x45, 0x4E, 0, 0, 0, 0, 0, 0, 0, 0,
 };
 
-#define ENTRY(task, kind, value) 0x45, 0x4E, task, kind, 0, 0, value, 0, 0, 0
-#define GO(task) ENTRY(task, 0, 0)
-#define LOADED(task) ENTRY(task, 1, 0), GO(task), GO(task), GO(task), GO(task)
+#define ENTRY(task, kind, cell, value) 0x45, 0x4E, task, kind, cell, 0, value, 0, 0, 0
+#define GO(task) ENTRY(task, 0, 0, 0)
+#define LOADED(task) ENTRY(task, 1, 0, 0), GO(task), GO(task), GO(task), GO(task)
 
 static const uint8_t CASE_10[] = {
     0x53, 0x55, 1, 2, 5, 0, /* setup: 1 cell, 2 tasks, 5 nodes */
     7, 0, 0, 0,
     LOADED(0), LOADED(1),
-    ENTRY(1, 2, 9),         /* task 1: store 9 to cell 0, which takes node 3 */
+    ENTRY(1, 2, 0, 9),      /* task 1: store 9 to cell 0, which takes node 3 */
     GO(1), GO(1), GO(1), GO(1), GO(1), GO(1), GO(1),
-    ENTRY(0, 2, 8),         /* task 0: store 8, lost, which gives node 0 back */
+    ENTRY(0, 2, 0, 8),      /* task 0: store 8, lost, which gives node 0 back */
     GO(0), GO(0), GO(0)
+};
+
+static const uint8_t RESTART[] = {
+    0x53, 0x55, 2, 2, 6, 0, /* setup: 2 cells, 2 tasks, 6 nodes */
+    7, 0, 0, 0, 8, 0, 0, 0,
+    ENTRY(0, 2, 0, 9),      /* task 0: store 9 to cell 0 and to cell 1, */
+    ENTRY(0, 2, 1, 9),      /* without a link: both are lost at once */
+    LOADED(0),              /* 7, as before */
+    ENTRY(0, 2, 0, 9),      /* with a link, the store takes */
+    GO(0), GO(0), GO(0),
+    LOADED(1)               /* 9 */
 };
 
 static void print_reply(const uint8_t *reply)
@@ -81,6 +94,19 @@ static size_t bytes_touched(const uint8_t *bytes, size_t size)
     for (size_t i = 0; i < size; i++)
         touched += bytes[i] != UNTOUCHED;
     return touched;
+}
+
+static void print_restart(void)
+{
+    uint8_t replies[REPLY * RESTARTED];
+    uint32_t numbers[KEMILUNDA_NUMBERS];
+
+    printf("restart: run %lu\n",
+           (unsigned long)kemilunda_run(RESTART, sizeof RESTART, replies,
+                                        sizeof replies, numbers));
+    for (size_t i = 0; i < RESTARTED; i++)
+        print_reply(replies + REPLY * i);
+    print_numbers(numbers);
 }
 
 /* How many nodes are free after each entry, for as many as there is room. */
@@ -177,6 +203,7 @@ int main(void)
         print_reply(replies + REPLY * i);
     print_numbers(numbers);
 
+    print_restart();
     printf("case 3, free nodes\n");
     print_free(CASE_3, sizeof CASE_3, MOST);
     printf("validate, free nodes\n"); /* the refused entry has a number too */

@@ -2,9 +2,9 @@
  * compare PROGRAM FIRST_SEED COUNT KEEP_DIR
  *
  * Runs PROGRAM on one random input a seed and compares what it prints, byte
- * for byte, with the second program's text.  Exit status: 0 all equal and
- * everything reachable met, 1 differences, 2 could not run, 3 all equal but
- * something reachable never met.
+ * for byte, with the second program's text, in which no entry may be answered
+ * 18.  Exit status: 0 all equal and everything reachable met, 1 differences,
+ * 2 could not run, 3 all equal but something reachable never met.
  */
 #define _POSIX_C_SOURCE 200809L
 
@@ -218,6 +218,27 @@ static bool same(const struct text *a, const struct text *b)
     return a->length == b->length && memcmp(a->bytes, b->bytes, a->length) == 0;
 }
 
+/* The first line that gives 18, counted from 1; 0 where none does. */
+static size_t line_of_18(const struct text *t)
+{
+    size_t line = 1, word = 1, start = 0;
+
+    for (size_t i = 0; i < t->length; i++) {
+        char byte = t->bytes[i];
+        bool setup = word == 2 && t->bytes[0] == 's'; /* its only line */
+
+        if (byte != ' ' && byte != '\n')
+            continue;
+        if ((word == 3 || setup) && i - start == 2 &&
+            memcmp(t->bytes + start, "18", 2) == 0)
+            return line;
+        start = i + 1;
+        word = byte == ' ' ? word + 1 : 1;
+        line += byte == '\n';
+    }
+    return 0;
+}
+
 /* Some seeds feed the program in small pieces, the rest as fast as it goes. */
 static size_t piece_size(uint64_t seed)
 {
@@ -238,20 +259,25 @@ static void compare(const char *program, uint64_t seed, const char *dir,
     static struct text first, second;
     size_t length = generate(seed, input, sizeof input);
     const char *wrong;
+    size_t line;
 
     tally->inputs++;
     cover(&tally->coverage, input, length);
     run_second(input, length, &second);
     wrong = run_program(program, input, length, piece_size(seed), &first);
-    if (wrong == NULL && same(&first, &second))
+    line = line_of_18(&second); /* where the texts are equal, of both */
+    if (wrong == NULL && same(&first, &second) && line == 0)
         return;
 
     tally->differences++;
     tally->hangs += wrong == HANGS;
-    printf("seed %llu: %s\n", (unsigned long long)seed,
-           wrong != NULL ? wrong : "the texts differ");
-
-    size_t line = print_difference(&first, &second);
+    if (wrong == NULL && same(&first, &second)) {
+        printf("seed %llu: both give 18\n", (unsigned long long)seed);
+    } else {
+        printf("seed %llu: %s\n", (unsigned long long)seed,
+               wrong != NULL ? wrong : "the texts differ");
+        line = print_difference(&first, &second);
+    }
 
     keep_input(dir, seed, input, length);
     /* entry n is on line n+1; what comes later had no part in it */

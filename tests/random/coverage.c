@@ -47,11 +47,13 @@ static void entry_faults(const struct machine *m, const uint8_t *e, size_t left,
 
     const struct task *t = &m->task[task];
 
+    bool runs = t->phase != IDLE && t->phase != LINKED;
+
     fault[BAD_CALL] = (kind == LOAD && t->phase != IDLE) ||
-                      ((kind == STORE || kind == RELEASE || kind == VALIDATE) &&
+                      (kind == STORE && runs) ||
+                      ((kind == RELEASE || kind == VALIDATE) &&
                        t->phase != LINKED);
-    fault[BAD_GO] = kind == GO && (t->phase == IDLE || t->phase == LINKED);
-    fault[OTHER_CELL] = kind == STORE && cell != t->cell;
+    fault[BAD_GO] = kind == GO && !runs;
 }
 
 static void setup_faults(const uint8_t *s, size_t length, bool fault[NUMBERS])
@@ -76,6 +78,10 @@ struct walk {
     bool turned[MAX_TASKS];
     uint8_t validated[MAX_TASKS];      /* how its link's last validate ended, or 0 */
     bool began_good[MAX_TASKS];        /* its cell was still at its node then */
+    bool loaded[MAX_TASKS];            /* it has begun a load */
+    bool tried[MAX_TASKS];             /* its last entry: a store without a link */
+    bool kept[MAX_TASKS];              /* its link has outlived such a store */
+    bool passed_over[MAX_TASKS];       /* another's such store met it in the set */
 };
 
 static void cover_load_step(struct coverage *c, struct walk *w,
@@ -187,6 +193,108 @@ static enum kind running(uint8_t phase)
     return phase == R1 ? RELEASE : phase == V1 ? VALIDATE : GO;
 }
 
+/* Between the passing check and the swap, which would take now. */
+static bool in_set(const struct machine *m, const struct task *t)
+{
+    return (t->phase == L4 || t->phase == LINKED || t->phase == S1 ||
+            t->phase == S2) && m->node_of[t->cell] == t->held;
+}
+
+/* What the other tasks do on the cell that is named in vain. */
+static void cover_others(struct unlinked *u, struct walk *w,
+                         const struct machine *m, uint8_t task, uint8_t cell)
+{
+    bool idle = m->task[task].phase == IDLE;
+
+    for (unsigned p = 0; p < m->tasks; p++) {
+        const struct task *t = &m->task[p];
+
+        if (p == task || t->cell != cell)
+            continue;
+        u->in_call[running(t->phase)]++;
+        if (in_set(m, t)) {
+            u->in_set_idle += idle;
+            u->in_set_linked += !idle;
+            w->passed_over[p] = true;
+        }
+    }
+}
+
+static void cover_unlinked(struct unlinked *u, struct walk *w,
+                           const struct machine *m, uint8_t task, uint8_t cell)
+{
+    const struct task *t = &m->task[task];
+    bool idle = t->phase == IDLE, good = m->node_of[t->cell] == t->held;
+
+    u->fresh += idle && !w->loaded[task];
+    u->idle += idle && w->loaded[task] && t->cell != cell;
+    u->again += idle && w->loaded[task] && t->cell == cell;
+    u->good += !idle && good;
+    u->stale += !idle && !good;
+    u->twice += w->tried[task];
+    w->tried[task] = true;
+    w->kept[task] = !idle;
+    cover_others(u, w, m, task, cell);
+}
+
+/* Accepted entries: stores without a link, and what comes of the links since. */
+static void cover_since(struct unlinked *u, struct walk *w,
+                        const struct machine *before, const uint8_t *entry,
+                        struct answer a)
+{
+    bool kept = w->kept[a.task];
+
+    if (entry[3] == STORE && a.number == LOST) {
+        cover_unlinked(u, w, before, a.task, entry[4]);
+        return;
+    }
+    u->load_after += entry[3] == LOAD && w->tried[a.task];
+    u->kept_took += kept && a.number == TOOK;
+    u->kept_lost += kept && a.number == LOST;
+    u->kept_good += kept && a.number == GOOD;
+    u->kept_gone += kept && a.number == GONE;
+    u->kept_released += kept && a.number == RELEASED;
+    u->in_set_took += w->passed_over[a.task] && a.number == TOOK;
+    w->tried[a.task] = false;
+    if (entry[3] == LOAD) {
+        w->loaded[a.task] = true;
+        w->kept[a.task] = w->passed_over[a.task] = false;
+    }
+}
+
+/* Refused stores, and a go that finds nothing begun by one without a link. */
+static void cover_refused_store(struct unlinked *u, const struct walk *w,
+                                const struct machine *m, const uint8_t *entry,
+                                struct answer a)
+{
+    if (a.number == BAD_GO)
+        u->go_after += w->tried[a.task];
+    if (entry[3] != STORE)
+        return;
+    /* a task byte that is too large, or none, has no record */
+    if (a.number != BAD_CALL && a.number != BAD_CELL && a.number != NOT_ZERO)
+        return;
+
+    const struct task *t = &m->task[a.task];
+    bool idle = t->phase == IDLE, linked = t->phase == LINKED;
+
+    switch (a.number) {
+    case BAD_CALL:
+        if (t->cell == entry[4])
+            u->own[running(t->phase)]++;
+        else
+            u->other[running(t->phase)]++;
+        break;
+    case BAD_CELL:
+        u->no_cell_idle += idle;
+        u->no_cell_linked += linked;
+        break;
+    case NOT_ZERO:
+        u->zero_idle += idle;
+        u->zero_linked += linked && t->cell != entry[4];
+    }
+}
+
 /* A refused validate, and what is refused during one or after one. */
 static void cover_refused_on_link(struct validates *v, const struct walk *w,
                                   const struct machine *m,
@@ -227,6 +335,7 @@ static void cover_refused(struct coverage *c, const struct walk *w,
     if (entry[3] == VALIDATE)
         note_others(c->validate_order, a.number, fault);
     cover_refused_on_link(&c->validates, w, m, entry, a);
+    cover_refused_store(&c->unlinked, w, m, entry, a);
 }
 
 static void cover_entry(struct coverage *c, struct walk *w, struct machine *m,
@@ -246,6 +355,7 @@ static void cover_entry(struct coverage *c, struct walk *w, struct machine *m,
     cover_store_step(c, w, &before, m, a);
     cover_free(c, &before, m, a);
     cover_link(&c->validates, w, &before, m, a);
+    cover_since(&c->unlinked, w, &before, entry, a);
 
     unsigned long busy = 0;
 
@@ -302,12 +412,11 @@ void cover(struct coverage *c, const uint8_t *input, size_t length)
 /* Pairs of faults that one record can have: the first is the one to give. */
 static const uint8_t ENTRY_ORDERS[][2] = {
     { 20, 19 },
-    { 19, 12 }, { 19, 13 }, { 19, 15 }, { 19, 14 }, { 19, 16 }, { 19, 17 }, { 19, 18 },
+    { 19, 12 }, { 19, 13 }, { 19, 15 }, { 19, 14 }, { 19, 16 }, { 19, 17 },
     { 12, 13 }, { 12, 15 }, { 12, 14 },
     { 13, 15 },
-    { 15, 14 }, { 15, 16 }, { 15, 17 }, { 15, 18 },
-    { 14, 16 }, { 14, 18 },
-    { 16, 18 },
+    { 15, 14 }, { 15, 16 }, { 15, 17 },
+    { 14, 16 },
 };
 
 static const uint8_t VALIDATE_ORDERS[][2] = {
@@ -325,12 +434,13 @@ static const uint8_t SETUP_ORDERS[][2] = {
 
 #define COUNT_OF(array) (sizeof(array) / sizeof(array)[0])
 
-/* Not 21, 22 and 24: the program's own buffer is large enough, no machine
- * from an accepted setup is damaged, and no bytes ask the holders question. */
+/* Not 18, 21, 22 and 24: the first is given nowhere, the program's own buffer is
+ * large enough, no machine from an accepted setup is damaged, and no bytes ask
+ * the holders question. */
 static bool reachable(unsigned number)
 {
-    return number <= GONE || (number >= BAD_SIZES && number < NO_ROOM) ||
-           number == TOO_LONG;
+    return number <= GONE || number == TOO_LONG ||
+           (number >= BAD_SIZES && number < NO_ROOM && number != UNUSED);
 }
 
 static unsigned missing(FILE *out, unsigned long met, const char *what,
@@ -431,6 +541,54 @@ static unsigned print_validates(FILE *out, const struct validates *v)
     return coverage_rows(out, "validate", rows, COUNT_OF(rows));
 }
 
+static unsigned print_unlinked(FILE *out, const struct unlinked *u)
+{
+    const struct row rows[] = {
+        { "while idle, before any load", u->fresh },
+        { "while idle, another cell than the last", u->idle },
+        { "while idle, the cell last linked to", u->again },
+        { "while linked elsewhere, the link is good", u->good },
+        { "while linked elsewhere, the link is stale", u->stale },
+        { "twice in a row", u->twice },
+        { "while idle, then a load", u->load_after },
+        { "then a go, 17", u->go_after },
+        { "kept link: store took", u->kept_took },
+        { "kept link: store lost", u->kept_lost },
+        { "kept link: validated good", u->kept_good },
+        { "kept link: validated gone", u->kept_gone },
+        { "kept link: released", u->kept_released },
+        { "another loads there", u->in_call[LOAD] },
+        { "another stores there", u->in_call[STORE] },
+        { "another releases there", u->in_call[RELEASE] },
+        { "another validates there", u->in_call[VALIDATE] },
+        { "another is in the set there, while idle", u->in_set_idle },
+        { "another is in the set there, while linked", u->in_set_linked },
+        { "another was in the set there, its store took", u->in_set_took },
+        { "no such cell, while idle, 14", u->no_cell_idle },
+        { "no such cell, while linked, 14", u->no_cell_linked },
+        { "its sixth byte not zero, while idle, 15", u->zero_idle },
+        { "its sixth byte not zero, while linked, 15", u->zero_linked },
+    };
+
+    return coverage_rows(out, "unlinked store", rows, COUNT_OF(rows));
+}
+
+static unsigned print_early_stores(FILE *out, const struct unlinked *u)
+{
+    const struct row rows[] = {
+        { "in a load, its cell, 16", u->own[LOAD] },
+        { "in a load, another cell, 16", u->other[LOAD] },
+        { "in a store, its cell, 16", u->own[STORE] },
+        { "in a store, another cell, 16", u->other[STORE] },
+        { "in a release, its cell, 16", u->own[RELEASE] },
+        { "in a release, another cell, 16", u->other[RELEASE] },
+        { "in a validate, its cell, 16", u->own[VALIDATE] },
+        { "in a validate, another cell, 16", u->other[VALIDATE] },
+    };
+
+    return coverage_rows(out, "early store", rows, COUNT_OF(rows));
+}
+
 static unsigned print_lengths(FILE *out, const struct coverage *c)
 {
     unsigned never = 0;
@@ -468,7 +626,8 @@ unsigned coverage_print(FILE *out, const struct coverage *c)
         if (i > GONE && i < BAD_SIZES)
             continue;
         fprintf(out, "  %-7s %2u %11lu%s\n", is_refusal(i) ? "refusal" : "reply", i,
-                c->number[i], reachable(i) ? "" : "  (not through the program)");
+                c->number[i], reachable(i) ? "" :
+                i == UNUSED ? "  (given nowhere)" : "  (not through the program)");
         if (reachable(i))
             never += missing(out, c->number[i], is_refusal(i) ? "refusal" : "reply", i);
     }
@@ -482,6 +641,8 @@ unsigned coverage_print(FILE *out, const struct coverage *c)
     never += print_stores(out, c);
     never += print_free(out, c);
     never += print_validates(out, &c->validates);
+    never += print_unlinked(out, &c->unlinked);
+    never += print_early_stores(out, &c->unlinked);
     print_depth(out, c);
     return never;
 }

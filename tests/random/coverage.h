@@ -25,6 +25,34 @@ struct validates {
     unsigned long for_value;      /* 15 for its value alone */
 };
 
+/* Where a store without a link that changes something, or one that is refused,
+ * would show.  Kept: the link that its task has on another cell. */
+struct unlinked {
+    unsigned long fresh;          /* while idle, the task has never loaded */
+    unsigned long idle;           /* while idle, of another cell than the last */
+    unsigned long again;          /* while idle, of the cell it was last linked to */
+    unsigned long good;           /* while linked elsewhere, the link is good */
+    unsigned long stale;
+    unsigned long twice;          /* the task's entry before was one too */
+    unsigned long load_after;     /* while idle, and its next entry is a load */
+    unsigned long go_after;       /* 17 for a go that is its task's next entry */
+    unsigned long kept_took;      /* stores on a kept link */
+    unsigned long kept_lost;
+    unsigned long kept_good;      /* validates */
+    unsigned long kept_gone;
+    unsigned long kept_released;
+    unsigned long in_call[KINDS]; /* by the call that another task runs there */
+    unsigned long in_set_idle;    /* another is in that cell's set, which the store */
+    unsigned long in_set_linked;  /* must leave; by an idle, a linked task */
+    unsigned long in_set_took;    /* and the store of such another took */
+    unsigned long own[KINDS];     /* 16 for a store by the call that ran, of */
+    unsigned long other[KINDS];   /* the call's own cell and of another */
+    unsigned long no_cell_idle;   /* 14 */
+    unsigned long no_cell_linked;
+    unsigned long zero_idle;      /* 15 */
+    unsigned long zero_linked;
+};
+
 struct coverage {
     /* accepted entries by the phase they found their task in */
     unsigned long phase[PHASES];
@@ -60,6 +88,7 @@ struct coverage {
     unsigned long lost_equal;       /* stores lost to an equal value */
     unsigned long most_busy;        /* tasks in a call or linked at once */
     struct validates validates;
+    struct unlinked unlinked;
 };
 
 /* Walks one input and adds what it meets. */

@@ -87,42 +87,46 @@ struct style {
     uint8_t hot;           /* loads that go for cell 0 */
     uint8_t stores;        /* links that end in a store, not a release */
     uint8_t validates;     /* moves of a linked task that leave it linked */
+    uint8_t unlinked;      /* moves of an idle or linked task: stores without a link */
     uint8_t stay;          /* entries that stay with the task that moved last */
-    uint8_t park;          /* tasks parked on coming into one of the phases */
+    uint8_t park;          /* tasks parked where an entry leaves them in one of the phases */
     unsigned park_phases;
     unsigned park_entries; /* how long a parked task may stand still */
 };
 
 static const struct style STYLES[] = {
     /* contention: everybody on cell 0, one step each in any order */
-    { FEW_CELLS, 100, 90, 15, 0, 0, 0, 0 },
+    { FEW_CELLS, 100, 90, 15, 5, 0, 0, 0, 0 },
     /* the same with some links given up, so counts fall in other ways */
-    { FEW_CELLS, 90, 50, 20, 20, 0, 0, 0 },
+    { FEW_CELLS, 90, 50, 20, 10, 20, 0, 0, 0 },
     /* stalled loads: the pointer is read, then nothing for a long time */
-    { FEW_CELLS, 100, 95, 10, 30, 60, AT(L2) | AT(L3), 300 },
+    { FEW_CELLS, 100, 95, 10, 5, 30, 60, AT(L2) | AT(L3), 300 },
     /* stalled between check and copy, or holding a link for long */
-    { FEW_CELLS, 95, 85, 20, 40, 50, AT(L4) | AT(LINKED), 200 },
+    { FEW_CELLS, 95, 85, 20, 15, 40, 50, AT(L4) | AT(LINKED), 200 },
     /* stalled stores: the swap comes when the cell has long moved on */
-    { FEW_CELLS, 100, 100, 10, 40, 60, AT(S1) | AT(S2) | AT(S7), 150 },
+    { FEW_CELLS, 100, 100, 10, 10, 40, 60, AT(S1) | AT(S2) | AT(S7), 150 },
     /* stalled between swap and end, old nodes pile up */
-    { FEW_CELLS, 100, 100, 10, 30, 50, AT(S3) | AT(S5), 150 },
+    { FEW_CELLS, 100, 100, 10, 5, 30, 50, AT(S3) | AT(S5), 150 },
     /* several tasks looking for a free node at the same time */
-    { FEW_CELLS, 100, 100, 10, 10, 50, AT(S6) | AT(LINKED), 60 },
+    { FEW_CELLS, 100, 100, 10, 5, 10, 50, AT(S6) | AT(LINKED), 60 },
     /* long probing: the first free node is many cells away */
-    { MANY_CELLS, 100, 95, 10, 50, 30, AT(LINKED) | AT(S2), 120 },
-    { MANY_CELLS, 80, 95, 10, 85, 40, AT(LINKED) | AT(L3), 200 },
+    { MANY_CELLS, 100, 95, 10, 5, 50, 30, AT(LINKED) | AT(S2), 120 },
+    { MANY_CELLS, 80, 95, 10, 10, 85, 40, AT(LINKED) | AT(L3), 200 },
     /* bursts: one task runs many steps, then another */
-    { ANY_CELLS, 60, 85, 15, 92, 0, 0, 0 },
-    { FEW_CELLS, 100, 95, 15, 85, 20, AT(L2) | AT(L3) | AT(L4) | AT(LINKED), 100 },
+    { ANY_CELLS, 60, 85, 15, 15, 92, 0, 0, 0 },
+    { FEW_CELLS, 100, 95, 15, 10, 85, 20, AT(L2) | AT(L3) | AT(L4) | AT(LINKED), 100 },
     /* releases more than stores */
-    { ANY_CELLS, 70, 20, 20, 50, 10, AT(R1) | AT(LINKED), 40 },
+    { ANY_CELLS, 70, 20, 20, 20, 50, 10, AT(R1) | AT(LINKED), 40 },
     /* all over the cells */
-    { ANY_CELLS, 0, 80, 20, 40, 10, AT(L2) | AT(S2) | AT(S6), 80 },
+    { ANY_CELLS, 0, 80, 20, 15, 40, 10, AT(L2) | AT(S2) | AT(S6), 80 },
     /* links kept long and asked about again and again while others store */
-    { FEW_CELLS, 90, 85, 60, 30, 50, AT(LINKED), 80 },
+    { FEW_CELLS, 90, 85, 60, 15, 30, 50, AT(LINKED), 80 },
     /* stalled validates: the cell moves on between the beginning and the step */
-    { FEW_CELLS, 100, 90, 50, 30, 60, AT(V1) | AT(LINKED), 120 },
-    { MANY_CELLS, 50, 75, 50, 60, 40, AT(V1) | AT(S2), 60 },
+    { FEW_CELLS, 100, 90, 50, 10, 30, 60, AT(V1) | AT(LINKED), 120 },
+    { MANY_CELLS, 50, 75, 50, 15, 60, 40, AT(V1) | AT(S2), 60 },
+    /* as after a restart: most stores come without a link */
+    { FEW_CELLS, 60, 85, 20, 40, 30, 20, AT(L4) | AT(LINKED) | AT(S2), 40 },
+    { ANY_CELLS, 40, 80, 20, 60, 60, 20, AT(LINKED), 80 },
 };
 
 enum { STYLE_COUNT = sizeof STYLES / sizeof STYLES[0] };
@@ -138,6 +142,7 @@ static struct style pick_style(struct dice *d)
     s.hot = (uint8_t)below(d, 101);
     s.stores = (uint8_t)below(d, 101);
     s.validates = (uint8_t)below(d, 81);
+    s.unlinked = (uint8_t)below(d, 61);
     s.stay = (uint8_t)below(d, 96);
     s.park = (uint8_t)below(d, 80);
     s.park_phases = (unsigned)below(d, 1u << PHASES) & ~(unsigned)AT(IDLE);
@@ -235,20 +240,27 @@ static void put_setup(struct maker *k)
 }
 
 /* Writes an entry and lets the guide follow. */
-static void put_entry(struct maker *k, uint8_t task, uint8_t kind, uint8_t cell,
-                      uint32_t value)
+static void put_made(struct maker *k, const uint8_t entry[ENTRY_BYTES])
 {
-    uint8_t entry[ENTRY_BYTES];
+    uint8_t task = entry[2];
 
-    make_entry(entry, task, kind, cell, value);
-    put(&k->tape, entry, sizeof entry);
-    bench_apply(&k->guide, entry, sizeof entry);
+    put(&k->tape, entry, ENTRY_BYTES);
+    bench_apply(&k->guide, entry, ENTRY_BYTES);
 
     uint8_t phase = k->guide.task[task].phase;
 
     if ((k->style.park_phases & AT(phase)) && chance(&k->dice, k->style.park))
         k->parked[task] = 1 + below(&k->dice, k->style.park_entries);
     k->last = task;
+}
+
+static void put_entry(struct maker *k, uint8_t task, uint8_t kind, uint8_t cell,
+                      uint32_t value)
+{
+    uint8_t entry[ENTRY_BYTES];
+
+    make_entry(entry, task, kind, cell, value);
+    put_made(k, entry);
 }
 
 static uint8_t pick_cell(struct maker *k)
@@ -262,6 +274,37 @@ static void move_store(struct maker *k, uint8_t task)
 {
     put_entry(k, task, STORE, k->guide.task[task].cell,
               pick_value(&k->dice, k->values));
+}
+
+static uint8_t other_cell(struct maker *k, uint8_t cell)
+{
+    unsigned cells = k->sizes.cells;
+
+    if (cells == 1)
+        return cell;
+    return (uint8_t)((cell + between(&k->dice, 1, cells - 1)) % cells);
+}
+
+/* Whether there is a cell that it could name in a store without a link. */
+static bool has_unlinked(const struct maker *k, uint8_t task)
+{
+    uint8_t phase = k->guide.task[task].phase;
+
+    return phase == IDLE || (phase == LINKED && k->sizes.cells > 1);
+}
+
+/* Such a store; half of them of a cell by the style's choice. */
+static void make_unlinked(struct maker *k, uint8_t task,
+                          uint8_t entry[ENTRY_BYTES])
+{
+    struct dice *d = &k->dice;
+    const struct task *t = &k->guide.task[task];
+    uint8_t cell = chance(d, 50) ? pick_cell(k)
+                                 : (uint8_t)below(d, k->sizes.cells);
+
+    if (t->phase == LINKED && cell == t->cell)
+        cell = other_cell(k, cell);
+    make_entry(entry, task, STORE, cell, pick_value(d, k->values));
 }
 
 /* A move towards the end of the task's call and link. */
@@ -279,10 +322,20 @@ static void move_on(struct maker *k, uint8_t task)
         put_entry(k, task, RELEASE, 0, 0);
 }
 
+static void move_unlinked(struct maker *k, uint8_t task)
+{
+    uint8_t entry[ENTRY_BYTES];
+
+    make_unlinked(k, task, entry);
+    put_made(k, entry);
+}
+
 /* Any move that the task can make now. */
 static void move(struct maker *k, uint8_t task)
 {
-    if (k->guide.task[task].phase == LINKED && chance(&k->dice, k->style.validates))
+    if (has_unlinked(k, task) && chance(&k->dice, k->style.unlinked))
+        move_unlinked(k, task);
+    else if (k->guide.task[task].phase == LINKED && chance(&k->dice, k->style.validates))
         put_entry(k, task, VALIDATE, 0, 0);
     else
         move_on(k, task);
@@ -439,13 +492,18 @@ static void break_zero(struct dice *d, uint8_t *entry)
         entry[5] = not_zero(d);
 }
 
-static uint8_t other_cell(struct maker *k, uint8_t cell)
+/* A store in the middle of a call. */
+static void early_store(struct maker *k, uint8_t *entry)
 {
-    unsigned cells = k->sizes.cells;
+    struct dice *d = &k->dice;
+    uint8_t task = (uint8_t)below(d, k->sizes.tasks);
+    const struct task *t = &k->guide.task[task];
 
-    if (cells == 1)
-        return cell;
-    return (uint8_t)((cell + between(&k->dice, 1, cells - 1)) % cells);
+    if (t->phase == IDLE || t->phase == LINKED || chance(d, 50))
+        stop_in(k, task, (enum kind)between(d, LOAD, VALIDATE));
+    make_entry(entry, task, STORE,
+               chance(d, 50) ? t->cell : other_cell(k, t->cell),
+               pick_value(d, k->values));
 }
 
 /* An entry that is whole but comes at the wrong time. */
@@ -454,7 +512,6 @@ static void wrong_time(struct maker *k, uint8_t *entry)
     struct dice *d = &k->dice;
     uint8_t task = (uint8_t)below(d, k->sizes.tasks);
     const struct task *t = &k->guide.task[task];
-    uint32_t value = pick_value(d, k->values);
     unsigned pick = below(d, 8);
 
     if (pick < 3) { /* go with no call to go on with */
@@ -462,24 +519,20 @@ static void wrong_time(struct maker *k, uint8_t *entry)
         if (t->phase == LINKED && chance(d, 50)) { /* straight after a validate */
             put_entry(k, task, VALIDATE, 0, 0);
             put_entry(k, task, GO, 0, 0);
+        } else if (has_unlinked(k, task) && chance(d, 50)) {
+            move_unlinked(k, task); /* which begins nothing */
         }
         make_entry(entry, task, GO, 0, 0);
-    } else if (pick < 5 && k->sizes.cells > 1) { /* store on the wrong cell */
-        run_alone(k, task, LINKED);
-        make_entry(entry, task, STORE, other_cell(k, t->cell), value);
-    } else if (pick < 6) { /* load in the middle of a call, or while linked */
+    } else if (pick < 6) {
+        early_store(k, entry);
+    } else if (pick < 7) { /* load in the middle of a call, or while linked */
         if (t->phase == IDLE)
             run_alone(k, task, LINKED);
         make_entry(entry, task, LOAD, pick_cell(k), 0);
-    } else { /* store or release without a link */
+    } else { /* release without a link */
         if (t->phase == LINKED)
             run_alone(k, task, IDLE);
-        if (chance(d, 30))
-            make_entry(entry, task, RELEASE, 0, 0);
-        else if (chance(d, 40))
-            make_entry(entry, task, STORE, t->cell, value);
-        else
-            make_entry(entry, task, STORE, other_cell(k, t->cell), value);
+        make_entry(entry, task, RELEASE, 0, 0);
     }
 }
 
@@ -488,7 +541,9 @@ static void right_time(struct maker *k, uint8_t *entry)
     uint8_t task = pick_task(k);
     const struct task *t = &k->guide.task[task];
 
-    if (t->phase == IDLE)
+    if (has_unlinked(k, task) && chance(&k->dice, 40))
+        make_unlinked(k, task, entry);
+    else if (t->phase == IDLE)
         make_entry(entry, task, LOAD, pick_cell(k), 0);
     else if (t->phase != LINKED)
         make_entry(entry, task, GO, 0, 0);
@@ -575,15 +630,34 @@ static void call_in_validate(struct maker *k, uint8_t *entry)
                kind == STORE ? pick_value(d, k->values) : 0);
 }
 
+/* A store without a link that names no cell, or whose sixth byte is not zero. */
+static void wrong_unlinked(struct maker *k, uint8_t *entry)
+{
+    struct dice *d = &k->dice;
+    uint8_t task = (uint8_t)below(d, k->sizes.tasks);
+    unsigned pick = below(d, 10);
+
+    run_alone(k, task, chance(d, 50) ? IDLE : LINKED);
+    make_unlinked(k, task, entry);
+    if (pick < 6)
+        entry[4] = too_big(d, k->sizes.cells);
+    if (pick > 4)
+        entry[5] = not_zero(d);
+}
+
 static void put_refused(struct maker *k)
 {
     uint8_t entry[ENTRY_BYTES];
     unsigned pick = below(&k->dice, 100);
 
-    if (pick < 28)
+    if (pick < 25)
         wrong_validate(k, entry);
-    else if (pick < 35)
+    else if (pick < 31)
         call_in_validate(k, entry);
+    else if (pick < 40)
+        early_store(k, entry);
+    else if (pick < 46)
+        wrong_unlinked(k, entry);
     else
         wrong_entry(k, entry);
     put(&k->tape, entry, sizeof entry);

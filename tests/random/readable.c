@@ -59,7 +59,7 @@ static void print_outcome(FILE *out, const struct machine *m, struct answer a)
     else if (a.number == TOOK)
         fputs(": store took", out);
     else if (a.number == LOST)
-        fputs(": store lost", out);
+        fputs(a.met == S7 ? ": store lost" : ": no link there, store lost", out);
     else if (a.number == RELEASED)
         fputs(": released", out);
     else if (a.number == GOOD)

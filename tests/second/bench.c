@@ -274,11 +274,11 @@ static unsigned begin_load(struct task *t, uint8_t cell)
 
 static unsigned begin_store(struct task *t, uint8_t cell, uint32_t value)
 {
-    if (t->phase != LINKED)
+    if (t->phase != IDLE && t->phase != LINKED)
         return BAD_CALL;
-    if (t->cell != cell)
-        return OTHER_CELL;
-    t->phase = S1;
+    if (t->phase == IDLE || t->cell != cell)
+        return LOST; /* no link there: the paper's false, which changes nothing */
+    t->phase = S1; /* a stale link too: that shows at S2 */
     t->value = value;
     return MOVED;
 }
@@ -344,7 +344,7 @@ static void write_reply(uint8_t *reply, struct answer a)
 static void count_entry(struct report *r, struct answer a, uint8_t now)
 {
     r->accepted++;
-    if (a.met == IDLE) /* only a load is accepted here */
+    if (a.met == IDLE && now == L1) /* a store here leaves its task idle */
         r->loads++;
     if (a.met >= L1 && a.met <= L5)
         r->load_steps++;

@@ -1,7 +1,7 @@
 /*
  * The step bench of document 01, changed as items 1 (validate), 2 (lowering
- * tells what it left) and 3 (how many nodes are free) of document 02 ask,
- * written a second time in plain C.
+ * tells what it left), 3 (how many nodes are free) and 5 (a store without a
+ * link) of document 02 ask, written a second time in plain C.
  *
  * Written from the documents alone, so that a slip in the proved library and
  * a slip here are unlikely to be the same one.  No globals, no exit, nothing
@@ -62,7 +62,7 @@ enum number {
     NOT_ZERO = 15,
     BAD_CALL = 16,
     BAD_GO = 17,
-    OTHER_CELL = 18,
+    UNUSED = 18, /* given nowhere: item 5 took its only use away */
     BAD_MARK = 19,
     CUT = 20,
     NO_ROOM = 21,

@@ -1,9 +1,9 @@
 /*
  * Checks of the second program's functions where the program's bytes can't
  * reach: damaged machines, short reply buffers, the holders question, the
- * machine after document 01's cases, after a validate and after each step that
- * changes a count, how long a store alone can take, and how many nodes are free.
- * Prints what fails; exit status 1 then.
+ * machine after document 01's cases, after a validate, after a store without a
+ * link and after each step that changes a count, how long a store alone can take,
+ * and how many nodes are free.  Prints what fails; exit status 1 then.
  */
 #include "bench.h"
 #include "chance.h"
@@ -337,6 +337,7 @@ static void check_changes(void)
         check_stays(S2, GO, total);
         check_stays(V1, GO, total);
         check_stays(IDLE, LOAD, total);
+        check_stays(IDLE, STORE, total);
         check_stays(LINKED, STORE, total);
         check_stays(LINKED, RELEASE, total);
         check_stays(LINKED, VALIDATE, total);
@@ -594,6 +595,185 @@ static void check_early_validates(void)
     }
 }
 
+/* Lost at once, and every byte of the machine is as it was. */
+static void check_unlinked(struct machine *m, uint8_t task, uint8_t cell)
+{
+    struct machine before;
+    struct answer a;
+
+    memcpy(&before, m, sizeof before); /* an assignment may leave gaps out */
+    a = apply_on(m, task, STORE, cell, 9);
+    CHECK(a.number == LOST && a.task == task && a.value == 0);
+    CHECK(a.met == before.task[task].phase);
+    CHECK(memcmp(m, &before, sizeof before) == 0);
+}
+
+/* Case 5, and an idle task that has been linked to the cell before. */
+static void check_case_5(void)
+{
+    struct machine m = fresh(2, 2, 6);
+
+    check_refused(m, BAD_GO, 1);
+    check_unlinked(&m, 1, 0);
+    check_unlinked(&m, 1, 1);
+    CHECK(apply(&m, 1, RELEASE, 0).number == BAD_CALL);
+    CHECK(apply(&m, 1, VALIDATE, 0).number == BAD_CALL);
+    CHECK(apply_on(&m, 1, STORE, 2, 9).number == BAD_CELL);
+
+    /* the record still names the cell and the node that is in it */
+    call(&m, 1, LOAD, 0, 4);
+    call(&m, 1, RELEASE, 0, 1);
+    CHECK(m.task[1].cell == 0 && m.task[1].held == m.node_of[0]);
+    check_unlinked(&m, 1, 0);
+    check_unlinked(&m, 1, 1);
+    CHECK(call(&m, 1, LOAD, 0, 4).value == 7);
+}
+
+/* Case 6: the link stays, and its own store takes later. */
+static void check_case_6(void)
+{
+    struct machine m = fresh(2, 2, 6);
+
+    call(&m, 0, LOAD, 0, 4);
+    CHECK(apply_on(&m, 0, STORE, 2, 9).number == BAD_CELL);
+    check_unlinked(&m, 0, 1);
+    check_unlinked(&m, 0, 1);
+    CHECK(call(&m, 0, VALIDATE, 0, 1).number == GOOD);
+    check_unlinked(&m, 0, 1);
+    CHECK(call(&m, 0, STORE, 11, 3).number == TOOK);
+    CHECK(m.node_of[0] == 2 && m.value[2] == 11);
+    CHECK(m.node_of[1] == 1 && m.value[1] == 7);
+    check_unlinked(&m, 0, 0);
+}
+
+/* A stale link stays too: the store on its own cell begins, and is lost. */
+static void check_stale_link(void)
+{
+    struct machine m = fresh(2, 2, 6);
+
+    call(&m, 0, LOAD, 0, 4);
+    call(&m, 1, LOAD, 0, 4);
+    CHECK(call(&m, 1, STORE, 8, 8).number == TOOK);
+    check_unlinked(&m, 0, 1);
+    CHECK(call(&m, 0, VALIDATE, 0, 1).number == GONE);
+    check_unlinked(&m, 0, 1);
+    CHECK(call(&m, 0, STORE, 9, 2).number == MOVED && m.task[0].phase == S7);
+    CHECK(apply(&m, 0, GO, 0).number == LOST && m.task[0].phase == IDLE);
+    CHECK(m.value[m.node_of[0]] == 8);
+}
+
+/* Task 1's store goes on as if nobody else had tried. */
+static void check_during_store(void)
+{
+    struct machine m = fresh(2, 3, 8);
+
+    apply_on(&m, 2, LOAD, 1, 0);
+    for (unsigned i = 0; i < 4; i++)
+        apply(&m, 2, GO, 0);
+    apply(&m, 1, LOAD, 0);
+    for (uint8_t due = L1; due <= L4; due++) {
+        CHECK(m.task[1].phase == due);
+        check_unlinked(&m, 0, 0);
+        check_unlinked(&m, 2, 0);
+        apply(&m, 1, GO, 0);
+    }
+    check_unlinked(&m, 0, 0);
+    apply(&m, 1, STORE, 11);
+    for (uint8_t due = S1; due <= S3; due++) {
+        CHECK(m.task[1].phase == due);
+        check_unlinked(&m, 0, 0);
+        check_unlinked(&m, 2, 0);
+        CHECK(apply(&m, 1, GO, 0).number == (due == S3 ? TOOK : MOVED));
+    }
+    CHECK(m.value[m.node_of[0]] == 11);
+    CHECK(call(&m, 2, VALIDATE, 0, 1).number == GOOD);
+}
+
+/*
+ * Task 1 in the phase, its cell 1 of 2: own, other and missing cell.  No count
+ * and no total is asked for, so that they may be such as no bytes lead to.
+ */
+static void check_stores_in(uint8_t phase, uint8_t count, uint8_t total)
+{
+    struct machine m = fresh(2, 2, 6), begun;
+
+    m.task[1].phase = phase;
+    m.task[1].cell = 1;
+    m.task[1].held = m.task[1].cursor = 4;
+    memset(m.count, count, m.nodes);
+    m.free = total;
+    begun = m;
+    begun.task[1].phase = S1;
+    begun.task[1].value = 9;
+
+    for (uint8_t cell = 0; cell <= 2; cell++) {
+        struct machine after = m;
+
+        if (cell < 2 && (phase == IDLE || (phase == LINKED && cell != 1))) {
+            check_unlinked(&after, 1, cell);
+            continue;
+        }
+        CHECK(apply_on(&after, 1, STORE, cell, 9).number ==
+              (cell == 2 ? BAD_CELL : phase == LINKED ? MOVED : BAD_CALL));
+        CHECK(same(&after, cell == 1 && phase == LINKED ? &begun : &m));
+    }
+}
+
+static void check_stores(void)
+{
+    for (unsigned i = 0; i < PHASES; i++)
+        if (is_phase(i))
+            for (uint8_t count = 0; count <= 3; count++)
+                for (uint8_t total = 0; total <= 6; total++)
+                    check_stores_in((uint8_t)i, count, total);
+}
+
+/* Each fault of a store comes before the answer that it would get without. */
+static void check_store_orders(uint8_t phase)
+{
+    static const struct {
+        uint8_t due, entry[ENTRY_BYTES];
+    } orders[] = {
+        { BAD_MARK, { 0x45, 0x4F, 9, 9, 9, 9, 9, 9, 9, 9 } },
+        { BAD_TASK, { 0x45, 0x4E, 2, 9, 9, 9, 9, 9, 9, 9 } },
+        { BAD_KIND, { 0x45, 0x4E, 1, 9, 9, 9, 9, 9, 9, 9 } },
+        { NOT_ZERO, { 0x45, 0x4E, 1, STORE, 2, 1, 9, 9, 9, 9 } },
+        { NOT_ZERO, { 0x45, 0x4E, 1, STORE, 0, 1, 9, 9, 9, 9 } },
+        { BAD_CELL, { 0x45, 0x4E, 1, STORE, 2, 0, 9, 9, 9, 9 } },
+    };
+    struct machine m = fresh(2, 2, 6), before;
+
+    m.task[1].phase = phase;
+    m.task[1].cell = 1;
+    before = m;
+    for (size_t i = 0; i < sizeof orders / sizeof orders[0]; i++) {
+        CHECK(bench_apply(&m, orders[i].entry, ENTRY_BYTES).number ==
+              orders[i].due);
+        CHECK(bench_apply(&m, orders[i].entry, ENTRY_BYTES - 1).number == CUT);
+        CHECK(same(&m, &before));
+    }
+    m.task[0].own = 6; /* damage is looked for before anything else */
+    CHECK(apply_on(&m, 1, STORE, 0, 9).number == DAMAGED);
+}
+
+/* 18 is nobody's answer: every kind and cell byte, in every phase. */
+static bool never_18(void)
+{
+    const struct machine start = fresh(2, 2, 6);
+
+    for (unsigned i = 0; i < 1u << 20; i++) {
+        struct machine m = start;
+
+        if (!is_phase(i >> 16))
+            continue;
+        m.task[1].phase = (uint8_t)(i >> 16);
+        m.task[1].cell = 1;
+        if (apply_on(&m, 1, (uint8_t)(i >> 8), (uint8_t)i, 0).number == UNUSED)
+            return false;
+    }
+    return true;
+}
+
 /* Each byte as the phase of one task; where it is none, of the other too. */
 static void check_phases(void)
 {
@@ -709,6 +889,30 @@ static void check_runs(void)
     CHECK(r.refusal == 0 && r.accepted == 0);
 }
 
+/* Stores without a link count as accepted and as nothing else. */
+static void check_run_unlinked(void)
+{
+    static const uint8_t schedule[] = {
+        0x45, 0x4E, 1, STORE, 0, 0, 9, 0, 0, 0,
+        0x45, 0x4E, 0, STORE, 0, 0, 9, 0, 0, 0,
+        0x45, 0x4E, 1, GO, 0, 0, 0, 0, 0, 0,
+    };
+    static const uint8_t expected[] = {
+        0x41, 0x4E, 3, 1, 0, 0, 0, 0,
+        0x41, 0x4E, 3, 0, 0, 0, 0, 0,
+        0x41, 0x4E, 17, 1, 0, 0, 0, 0,
+    };
+    uint8_t replies[sizeof expected];
+    struct machine m = small(), before = m;
+    struct report r = bench_run(&m, schedule, sizeof schedule, replies,
+                                sizeof replies);
+
+    CHECK(r.accepted == 2 && r.refusal == BAD_GO && r.loads == 0);
+    CHECK(r.load_steps == 0 && r.turned_back == 0 && r.swaps == 0);
+    CHECK(memcmp(replies, expected, sizeof expected) == 0);
+    CHECK(same(&m, &before));
+}
+
 /* S5 gives node 3 back, S6 takes node 4, a load begins, and another can't. */
 static void check_display(free_question *ask, size_t room)
 {
@@ -815,10 +1019,19 @@ int main(void)
     check_stores_alone();
     check_validates();
     check_early_validates();
+    check_case_5();
+    check_case_6();
+    check_stale_link();
+    check_during_store();
+    check_stores();
+    check_store_orders(IDLE);
+    check_store_orders(LINKED);
+    CHECK(never_18());
     check_phases();
     check_damage_by_range();
     check_damage_by_step();
     check_runs();
+    check_run_unlinked();
     check_displays();
     check_run_in_phase(10);
     check_run_in_phase(16);

@@ -1,6 +1,7 @@
--- Number and value of each case of an answer, by documents 01 and 02. (24 belongs to the holders question, in the crate tasks.)
+-- Number and value of each case of an answer, by documents 01 and 02. 24 belongs to the holders question, in the crate tasks;
+-- 18, which document 01 gave to a store whose task was linked to another cell, is given no more: document 02 answers such a store.
 use Prim.Native.Nat.{ℕ}
-use Rattle.answers.specs.Types.{Reply, Moved, Loaded, Took, Lost, Released, Good, Gone, Refusal, Sizes, NoTask, NoKind, NoCell, NotZero, NotNow, NoStep, OtherCell, WrongMark, TooShort, NoRoom, Damaged, TooLong, NotALine, TooLarge, OutputShort, Answer, Replied, Refused}
+use Rattle.answers.specs.Types.{Reply, Moved, Loaded, Took, Lost, Released, Good, Gone, Refusal, Sizes, NoTask, NoKind, NoCell, NotZero, NotNow, NoStep, WrongMark, TooShort, NoRoom, Damaged, TooLong, NotALine, TooLarge, OutputShort, Answer, Replied, Refused}
 
 abbrev pub replyNumber : Reply → ℕ
 replyNumber Moved = 0  -- begun or moved
@@ -27,9 +28,8 @@ refusalNumber NoTask = 12  -- entry's task is P or more
 refusalNumber NoKind = 13  -- kind above 4
 refusalNumber NoCell = 14  -- load or store of a cell N or more
 refusalNumber NotZero = 15  -- a byte that must be zero isn't
-refusalNumber NotNow = 16  -- load while not idle; store, release or validate while not linked
+refusalNumber NotNow = 16  -- load while not idle; store while a call is running; release or validate while not linked
 refusalNumber NoStep = 17  -- go while idle or linked
-refusalNumber OtherCell = 18  -- store on a cell other than the linked one
 refusalNumber WrongMark = 19  -- wrong mark
 refusalNumber TooShort = 20  -- fewer bytes left than the record needs
 refusalNumber NoRoom = 21  -- reply buffer too short for the schedule

@@ -13,6 +13,10 @@ use Rattle.cases.specs.Rows.{Row, sets, enters, runs, gives, counts, fre
 abbrev pub sevens : ℕ → List ℕ
 sevens n = replicate n 7
 
+-- two cells with 7 and 8, one task, four nodes
+abbrev pub two : List ℕ
+two = setup 2 1 4 (7 ∷ 8 ∷ [])
+
 unfoldable pub cases : List Row
 cases =
     -- 1. 64 cells and 16 tasks are taken with 96 nodes, the fewest that N+2P allows, and use 6+4*64 bytes; one node less is refused
@@ -27,12 +31,12 @@ cases =
     sets (setup 64 17 128 (sevens 64)) 11 0 ∷
     -- 3. one task loads 7 and stores 9
     runs (setup 1 1 3 (7 ∷ [])) (loads 0 0 7 ++ stores 0 0 9) (9 ∷ 0 ∷ 1 ∷ 4 ∷ 0 ∷ 1 ∷ []) ∷
-    -- 5. a fresh task has no step to make, and no link to store by or to release
+    -- 5. a fresh task has no step to make and no link to release; its store, as item 5 has it, is lost at once
     enters mended small (gives (go 0) 17 0 0 ∷ []) ∷
-    enters mended small (gives (store 0 0 9) 16 0 0 ∷ []) ∷
+    enters mended small (gives (store 0 0 9) 3 0 0 ∷ []) ∷
     enters mended small (gives (release 0) 16 0 0 ∷ []) ∷
-    -- 6. a task linked to cell 0 of 2 may not store to cell 1, and there is no cell 2
-    enters mended (setup 2 1 4 (7 ∷ 8 ∷ [])) (loads 0 0 7 ++ gives (store 0 1 9) 18 0 0 ∷ gives (store 0 2 9) 14 0 0 ∷ []) ∷
+    -- 6. a task linked to cell 0 of 2: its store to cell 1 is lost at once, as item 5 has it, and there is no cell 2
+    enters mended two (loads 0 0 7 ++ gives (store 0 1 9) 3 0 0 ∷ gives (store 0 2 9) 14 0 0 ∷ []) ∷
     -- 9. task 0 begins a load and does L1; task 1 loads, stores 9, loads and stores 11, each store ending at S3; task 0 raises, checks, copies 11
     enters mended small
     (gives (load 0 0) 0 0 0 ∷ moves 0 1
@@ -148,4 +152,37 @@ cases =
     exports 0 (go 0 ++ 0 ∷ []) 20 [] ∷
     exports 0 (replyMark ++ 0 ∷ 0 ∷ 0 ∷ 1 ∷ 0 ∷ 0 ∷ 0 ∷ 0 ∷ 0 ∷ []) 19 [] ∷
     exports 0 (entryMark ++ 0 ∷ 0 ∷ 0 ∷ 1 ∷ 0 ∷ 0 ∷ 0 ∷ 0 ∷ 0 ∷ []) 15 [] ∷
-    exports 7 (store 1 0 9) 32 [] ∷ []
+    exports 7 (store 1 0 9) 32 [] ∷
+    -- Item 5. after a restart, which is a setup: two stores without a link are lost at once, a load gives the cell's first value, and the store
+    -- after it takes; then the task is idle again, so that its next store is lost, and the cell has the value that took
+    enters mended two
+    (gives (store 0 0 9) 3 0 0 ∷ gives (store 0 1 9) 3 0 0 ∷ counts (1 ∷ 1 ∷ 1 ∷ 0 ∷ [])
+    ∷ loads 0 0 7 ++ stores 0 0 9 ++ gives (store 0 0 5) 3 0 0 ∷ loads 0 0 9) ∷
+    -- they are accepted entries, and no loads, no load steps and no swaps
+    runs two (gives (store 0 0 9) 3 0 0 ∷ gives (store 0 1 9) 3 0 0 ∷ loads 0 0 7 ++ stores 0 0 9) (11 ∷ 0 ∷ 1 ∷ 4 ∷ 0 ∷ 1 ∷ []) ∷
+    -- a link to another cell stays: after a store to cell 1 is lost it validates good, and the store to cell 0 takes; cell 1 has its first value
+    enters mended two
+    (loads 0 0 7 ++ counts (2 ∷ 1 ∷ 1 ∷ 0 ∷ [])
+    ∷ gives (store 0 1 9) 3 0 0 ∷ counts (2 ∷ 1 ∷ 1 ∷ 0 ∷ [])
+    ∷ validates 0 5 ++ stores 0 0 9 ++ loads 0 1 8) ∷
+    -- so does a stale one: both load cell 0, task 1 swaps, task 0's store to cell 1 is lost at once; its link is gone, and its store to cell 0 is
+    -- begun and lost at S7
+    enters mended (setup 2 2 6 (7 ∷ 8 ∷ []))
+    (loads 0 0 7 ++ loads 1 0 7 ++ gives (store 1 0 9) 0 1 0 ∷ moves 1 2
+    ++ gives (store 0 1 9) 3 0 0 ∷ counts (3 ∷ 1 ∷ 1 ∷ 1 ∷ 0 ∷ 0 ∷ [])
+    ∷ validates 0 6 ++ gives (store 0 0 8) 0 0 0 ∷ moves 0 2 ++ gives (go 0) 3 0 0 ∷ []) ∷
+    -- a stale link on the store's own cell is a link: the store begins, and is lost at its third step, S7
+    enters mended small
+    (loads 0 0 7 ++ loads 1 0 7 ++ gives (store 1 0 9) 0 1 0 ∷ moves 1 2
+    ++ gives (store 0 0 8) 0 0 0 ∷ moves 0 2 ++ gives (go 0) 3 0 0 ∷ gives (store 0 0 8) 3 0 0 ∷ []) ∷
+    -- while a load, a store, a release or a validate runs a store is refused, on its cell and on another; a cell that is not there comes before that, and
+    -- a byte that is not zero before that cell
+    enters mended two
+    (gives (load 0 0) 0 0 0 ∷ gives (store 0 0 9) 16 0 0 ∷ gives (store 0 1 9) 16 0 0 ∷ gives (store 0 2 9) 14 0 0
+    ∷ gives (entryMark ++ 0 ∷ 2 ∷ 2 ∷ 1 ∷ 0 ∷ 0 ∷ 0 ∷ 0 ∷ []) 15 0 0 ∷ []) ∷
+    enters mended two (loads 0 0 7 ++ gives (store 0 0 9) 0 0 0 ∷ gives (store 0 0 9) 16 0 0 ∷ gives (store 0 1 9) 16 0 0 ∷ []) ∷
+    enters mended two (loads 0 0 7 ++ gives (release 0) 0 0 0 ∷ gives (store 0 0 9) 16 0 0 ∷ gives (store 0 1 9) 16 0 0 ∷ []) ∷
+    enters mended two (loads 0 0 7 ++ gives (validate 0) 0 0 0 ∷ gives (store 0 0 9) 16 0 0 ∷ gives (store 0 1 9) 16 0 0 ∷ []) ∷
+    -- an idle task's store has these faults before it has the reply 3
+    enters mended two
+    (gives (store 1 0 9) 12 1 0 ∷ gives (store 0 2 9) 14 0 0 ∷ gives (entryMark ++ 0 ∷ 2 ∷ 2 ∷ 1 ∷ 0 ∷ 0 ∷ 0 ∷ 0 ∷ []) 15 0 0 ∷ []) ∷ []

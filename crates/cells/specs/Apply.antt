@@ -8,7 +8,7 @@ use Rattle.entries.specs.Order.{orderOf}
 use Rattle.cells.specs.Types.{Machine, Applied, Decision, TaskNo, Task, Seen, Refuses, Damaged, EntryRead, Whole, Unread}
 use Rattle.cells.specs.Machine.{seenIn, seenOf, carriedOf, tablesOk, inRange}
 
--- 20, 19: there is no task byte yet; else 12, 13, 15, 14, 16 or 17, 18, 22 (the step) with the entry's task byte, or what the entry does.
+-- 20, 19: there is no task byte yet; else 12, 13, 15, 14, 16 or 17, 22 (the step) with the entry's task byte, or what the entry does.
 -- `at` finds a task's record, and `sees` what a step of it may look at
 unfoldable pub judgedOf : ℕ → ℕ → (TaskNo → Task) → (Task → Seen) → EntryRead → Decision
 judgedOf n p at sees (Unread r) = record { task = 0; effect = Refuses r }

@@ -1,10 +1,11 @@
--- What an entry does to its task, and the refusals in document 01's order.
+-- What an entry does to its task, and the refusals in document 01's order, as document 02 changes the store.
 use Prim.Native.Nat.{ℕ}
-use mathlib.Core.Bool.{cond, not}
+use mathlib.Core.Bool.{Bool, cond, not, _&&_}
 use lib.Dec.{eqb, leb, ltb}
+use Rattle.tasks.specs.Phases.{resting}
 use Rattle.tasks.specs.Calls.{begunOf}
 use Rattle.steps.specs.Table.{does, effectOf}
-use Rattle.entries.specs.Types.{CellNo, Task, Call, Load, Store, Release, Validate, Moved, NoTask, NoKind, NoCell, NotZero, NotNow, OtherCell, Seen, Nothing, Effect, Refuses, Entry}
+use Rattle.entries.specs.Types.{CellNo, Task, Call, Load, Store, Release, Validate, Moved, Lost, NoTask, NoKind, NoCell, NotZero, NotNow, Seen, Nothing, Effect, Refuses, Entry}
 use Rattle.entries.specs.Entry.{nonzero, outside}
 
 -- a call starts: one task's record changes, and nothing else
@@ -17,11 +18,15 @@ loadOf t x =
     cond (not (eqb (t .phase) 0)) (Refuses NotNow)  -- 16
     (begins t (Load x))
 
--- a store starts where the task is linked, and to that cell
+-- the task is linked to cell x
+abbrev pub linkedTo : Task → CellNo → Bool
+linkedTo t x = eqb (t .phase) 6 && eqb (t .cell .0) (x .0)
+
+-- a store starts where the task is linked to that cell; without such a link it is lost at once, and nothing changes
 unfoldable pub storeOf : Task → CellNo → ℕ → Effect
 storeOf t x y =
-    cond (not (eqb (t .phase) 6)) (Refuses NotNow)  -- 16
-    (cond (not (eqb (x .0) (t .cell .0))) (Refuses OtherCell)  -- 18
+    cond (not (resting (t .phase))) (Refuses NotNow)  -- 16
+    (cond (not (linkedTo t x)) (does t Nothing Lost)
     (begins t (Store y)))
 
 -- a release and a validate start where the task is linked
@@ -46,4 +51,4 @@ orderOf n p e t s =
     (cond (ltb 4 (e .kind)) (Refuses NoKind)  -- 13
     (cond (nonzero e) (Refuses NotZero)  -- 15
     (cond (outside n e) (Refuses NoCell)  -- 14
-    (callOf e t s))))  -- 16 or 17, 18, 22 (the step)
+    (callOf e t s))))  -- 16 or 17, 22 (the step)

@@ -3,8 +3,8 @@ pub use Rattle.tasks.specs.declared.CellNo.{CellNo}
 pub use Rattle.tasks.specs.declared.Task.{Task}
 pub use Rattle.tasks.specs.declared.Call.{Call}
 pub use Rattle.tasks.specs.declared.Call.the-variants.{Load, Store, Release, Validate}
-pub use Rattle.answers.specs.declared.Reply.the-variants.{Moved}
-pub use Rattle.answers.specs.declared.Refusal.the-variants.{NoTask, NoKind, NoCell, NotZero, NotNow, OtherCell, WrongMark, TooShort}
+pub use Rattle.answers.specs.declared.Reply.the-variants.{Moved, Lost}
+pub use Rattle.answers.specs.declared.Refusal.the-variants.{NoTask, NoKind, NoCell, NotZero, NotNow, WrongMark, TooShort}
 pub use Rattle.steps.specs.declared.Seen.{Seen}
 pub use Rattle.steps.specs.declared.Write.the-variants.{Nothing}
 pub use Rattle.steps.specs.declared.Effect.{Effect}

@@ -12,7 +12,8 @@ use tasks::TaskNo;
 ghost use mathlib.Core.Path.{_≡_};
 ghost use Rattle.wire.specs.Bytes.{fitted};
 ghost use Rattle.entries.specs.Entry.{entryOf, entryBytes, nonzero, outside};
-ghost use Rattle.entries.specs.Order.{begins, loadOf, storeOf, linkedCallOf, callOf, orderOf};
+ghost use Rattle.tasks.specs.Phases.{resting};
+ghost use Rattle.entries.specs.Order.{begins, loadOf, linkedTo, storeOf, linkedCallOf, callOf, orderOf};
 
 pub struct Entry {
     pub task: TaskNo,
@@ -118,14 +119,38 @@ fn load(t: Task, x: CellNo) -> Effect
     begin_call(t, Call::Load(x))
 }
 
+// Whether no call runs in this phase: idle or linked.
+fn resting(phase: u8) -> bool
+    ensures { λ r. ⌜ r ≡ resting phase ⌝ }
+{
+    if phase == 0 {
+        return true;
+    }
+    phase == 6
+}
+
+fn linked_to(t: Task, x: CellNo) -> bool
+    ensures { λ r. ⌜ r ≡ linkedTo t x ⌝ }
+{
+    if t.phase != 6 {
+        return false;
+    }
+    t.cell.0 == x.0
+}
+
+// Without a link on its cell a store is figure 1's false, at once: the task's record is handed back as it is.
 fn store(t: Task, x: CellNo, y: u32) -> Effect
     ensures { λ r. ⌜ r ≡ storeOf t x y ⌝ }
 {
-    if t.phase != 6 {
+    if !resting(t.phase) {
         return Effect::Refuses(Refusal::NotNow);
     }
-    if x.0 != t.cell.0 {
-        return Effect::Refuses(Refusal::OtherCell);
+    if !linked_to(t, x) {
+        return Effect::Does(Deed {
+            task: t,
+            write: Write::Nothing,
+            reply: Reply::Lost,
+        });
     }
     begin_call(t, Call::Store(y))
 }

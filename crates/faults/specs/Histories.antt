@@ -1,4 +1,4 @@
--- What a schedule does in figure 1's terms, under any bench: each call begins with its accepted entry, acts at one step, ends with its reply.
+-- What a schedule does in figure 1's terms, under any bench: each call begins with its accepted entry, acts once, ends with its reply.
 use Prim.Native.Nat.{ℕ}
 use mathlib.Core.List.{List, [], _∷_, _++_}
 use Rattle.answers.specs.declared.Answer.{Answer}

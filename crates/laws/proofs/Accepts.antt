@@ -7,18 +7,19 @@ use mathlib.Core.List.{List}
 use mathlib.Core.Logic.{_≢_}
 use lib.Dec.{T, eqb, leb, ltb}
 use lib.ListN.{length, getD}
-use borrow.Author.Tests.{lt-leb, eq-eqb, leb-true, leb-false, ltb-true, ltb-false, eqb-true, eqb-false, not-true, not-false}
+use borrow.Author.Tests.{lt-leb, leb-true, leb-false, ltb-true, ltb-false, eqb-true, eqb-false, not-true, not-false}
 use Rattle.tallies.proofs.Lists.{by-test}
 use Rattle.wire.specs.Bytes.{entryMark, marked, wordAt}
 use Rattle.tasks.specs.Records.{cellNo}
+use Rattle.tasks.specs.Phases.{resting}
 use Rattle.steps.specs.Table.{rows, effectOf}
 use Rattle.entries.specs.Entry.{entryOf, nonzero, outside}
-use Rattle.entries.specs.Order.{loadOf, storeOf, linkedCallOf, callOf, orderOf}
+use Rattle.entries.specs.Order.{loadOf, linkedTo, storeOf, linkedCallOf, callOf, orderOf}
 use Rattle.tables.specs.Tables.{taskIn}
 use Rattle.cells.specs.Machine.{seenOf, carriedOf, inRange}
 use Rattle.cells.specs.Apply.{judgedOf, decisionOf, carriedBy, applyOf}
 use Rattle.runs.specs.Counts.{accepted, kindOf, taskOf}
-use Rattle.laws.specs.Types.{Refusal, NoTask, NoKind, NoCell, NotZero, NotNow, OtherCell, Task, Effect, Does, Refuses, Entry, EntryRead, Machine, Decision}
+use Rattle.laws.specs.Types.{Refusal, NoTask, NoKind, NoCell, NotZero, NotNow, Task, Effect, Does, Refuses, Entry, EntryRead, Machine, Decision}
 use Rattle.laws.specs.Kept.{Kept}
 use Rattle.laws.specs.Accepts.{May, go, load, store, release, validate, Fits}
 use Rattle.laws.proofs.Entries.{taskNo}
@@ -54,7 +55,7 @@ module _ (m : Machine) (K : Kept m) (e : List ℕ) where
         at-most : May m e → kindOf e ≤ 4
         at-most (go k c y f0 f6) = omega arith
         at-most (load k c y f0) = omega arith
-        at-most (store k c f6) = omega arith
+        at-most (store k c r) = omega arith
         at-most (release k c y f6) = omega arith
         at-most (validate k c y f6) = omega arith
 
@@ -63,11 +64,11 @@ module _ (m : Machine) (K : Kept m) (e : List ℕ) where
     zeros = by-kind (f .asks)
       where
         by-kind : May m e → nonzero entry ≡ false
-        by-kind (go k c y f0 f6) = rw (f .zero, k, c, y)
-        by-kind (load k c y f0) = rw (f .zero, k, y)
-        by-kind (store k c f6) = rw (f .zero, k)
-        by-kind (release k c y f6) = rw (f .zero, k, c, y)
-        by-kind (validate k c y f6) = rw (f .zero, k, c, y)
+        by-kind (go k c y f0 f6) = rw (f .formed .zero, k, c, y)
+        by-kind (load k c y f0) = rw (f .formed .zero, k, y)
+        by-kind (store k c r) = rw (f .formed .zero, k)
+        by-kind (release k c y f6) = rw (f .formed .zero, k, c, y)
+        by-kind (validate k c y f6) = rw (f .formed .zero, k, c, y)
 
     within : outside (m .n) entry ≡ false
     unfolding outside
@@ -76,7 +77,7 @@ module _ (m : Machine) (K : Kept m) (e : List ℕ) where
         by-kind : May m e → outside (m .n) entry ≡ false
         by-kind (go k c y f0 f6) = rw k
         by-kind (load k c y f0) = rw (k, lt-leb (m .n) (getD e 4 0) c)
-        by-kind (store k c f6) = rw (k, c, lt-leb (m .n) (t .cell .0) (K .sound .each (getD e 2 0) (f .task) .cell))
+        by-kind (store k c r) = rw (k, lt-leb (m .n) (getD e 4 0) c)
         by-kind (release k c y f6) = rw k
         by-kind (validate k c y f6) = rw k
 
@@ -93,9 +94,9 @@ module _ (m : Machine) (K : Kept m) (e : List ℕ) where
 
     called : May m e → Taken (callOf entry t (seenOf m t))
     unfolding callOf loadOf storeOf linkedCallOf carriedOf
-    called (go k c y f0 f6) = rw k (made f0 f6 (effectOf t (seenOf m t)) (steady m K (getD e 2 0) (f .task)))
+    called (go k c y f0 f6) = rw k (made f0 f6 (effectOf t (seenOf m t)) (steady m K (getD e 2 0) (f .formed .task)))
     called (load k c y f0) = rw (k, f0)
-    called (store k c f6) = rw (k, f6, eq-eqb (getD e 4 0) (t .cell .0) c)
+    called (store k c r) = rw (k, r) (by-test Taken (not (linkedTo t (cellNo (getD e 4 0)))) _ _ (λ q. refl) (λ q. refl))
     called (release k c y f6) = rw (k, f6)
     called (validate k c y f6) = rw (k, f6)
 
@@ -103,9 +104,9 @@ module _ (m : Machine) (K : Kept m) (e : List ℕ) where
     unfolding applyOf decisionOf judgedOf orderOf entryOf
     takes =
         by-test (λ (d : Decision). accepted (carriedBy m d .answer) ≡ true) (not (inRange m)) _ _ (λ q. absurd (false≢true (sym (not-true _ q) ∙ in-range m K)))
-        (λ q. by-test Read (ltb (length e) 10) _ _ (λ w. absurd (omega (arith, f .whole, ltb-true (length e) 10 w)))
-        (λ w. by-test Read (not (marked entryMark e)) _ _ (λ x. absurd (false≢true (sym (not-true _ x) ∙ f .mark)))
-        (λ x. by-test Taken (leb (m .p) (getD e 2 0)) _ _ (λ a. absurd (omega (arith, f .task, leb-true (m .p) (getD e 2 0) a)))
+        (λ q. by-test Read (ltb (length e) 10) _ _ (λ w. absurd (omega (arith, f .formed .whole, ltb-true (length e) 10 w)))
+        (λ w. by-test Read (not (marked entryMark e)) _ _ (λ x. absurd (false≢true (sym (not-true _ x) ∙ f .formed .mark)))
+        (λ x. by-test Taken (leb (m .p) (getD e 2 0)) _ _ (λ a. absurd (omega (arith, f .formed .task, leb-true (m .p) (getD e 2 0) a)))
         (λ a. by-test Taken (ltb 4 (kindOf e)) _ _ (λ b. absurd (omega (arith, kinds, ltb-true 4 (kindOf e) b)))
         (λ b. by-test Taken (nonzero entry) _ _ (λ c. absurd (false≢true (sym zeros ∙ c)))
         (λ c. by-test Taken (outside (m .n) entry) _ _ (λ d. absurd (false≢true (sym within ∙ d))) (λ d. called (f .asks))))))))
@@ -137,8 +138,8 @@ module _ (m : Machine) (K : Kept m) (e : List ℕ) where
       (λ k. by-test Told (not (eqb (t .phase) 0)) _ _ (λ w. no NotNow)
       (λ w h. load (eqb-true (kindOf e) 1 k) (leb-false (m .n) (getD e 4 0) (rw (eqb-true (kindOf e) 1 k) at hn)) (is-zero (wordAt e 6) (neither (not (eqb (getD e 5 0) 0) || false) (not (eqb (wordAt e 6) 0)) (rw (eqb-true (kindOf e) 1 k) at hz) .1)) (is-zero (t .phase) w)))
       (λ k1. by-test Told (eqb (kindOf e) 2) _ _
-      (λ k. by-test Told (not (eqb (t .phase) 6)) _ _ (λ w. no NotNow)
-      (λ w. by-test Told (not (eqb (getD e 4 0) (t .cell .0))) _ _ (λ x. no OtherCell) (λ x h. store (eqb-true _ _ k) (eqb-true _ _ (not-false _ x)) (eqb-true _ _ (not-false _ w)))))
+      (λ k. by-test Told (not (resting (t .phase))) _ _ (λ w. no NotNow)
+      (λ w h. store (eqb-true _ _ k) (leb-false (m .n) (getD e 4 0) (rw (eqb-true (kindOf e) 2 k) at hn)) (not-false _ w)))
       (λ k2. by-test Told (eqb (kindOf e) 3) _ _
       (λ k. by-test Told (not (eqb (t .phase) 6)) _ _ (λ w. no NotNow)
       (λ w h. let z = (rw (eqb-true (kindOf e) 3 k) at hz) in
@@ -171,10 +172,7 @@ module _ (m : Machine) (K : Kept m) (e : List ℕ) where
       (λ b. by-test Fit (nonzero entry) _ _ (λ c. no NotZero)
       (λ c. by-test Fit (outside (m .n) entry) _ _ (λ d. no NoCell)
       (λ d h. record {
-        whole = ltb-false (length e) 10 w;
-        mark = not-false _ x;
-        task = leb-false (m .p) (getD e 2 0) a;
-        zero = byte-zero c;
+        formed = record { whole = ltb-false (length e) 10 w; mark = not-false _ x; task = leb-false (m .p) (getD e 2 0) a; zero = byte-zero c };
         asks = told (ltb-false 4 (kindOf e) b) c d h;
       })))))))
     where

@@ -83,6 +83,7 @@ entry-bare m e K B =
     by-entry m e (λ a. Bare (a .machine)) (λ i r w. B)
     (λ a h. written-bare m (taskNo e) _ Nothing B (a .task) tt)
     (λ a h. written-bare m (taskNo e) _ Nothing B (a .task) tt)
+    (λ a. B)
     (λ a. written-bare m (taskNo e) _ Nothing B (a .task) tt)
     (λ a. written-bare m (taskNo e) _ Nothing B (a .task) tt)
     (λ d s. written-bare m (taskNo e) (d .task) (d .write) B (s .task)

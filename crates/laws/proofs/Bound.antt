@@ -123,7 +123,7 @@ module _ (on : ℕ → Bool) where
   entry-pays : (m : Machine) (e : List ℕ) → m .p ≤ length (m .tasks) → Pays m e (applyOf m e)
   entry-pays m e h =
       by-entry m e (Pays m e) (λ i r w. omega arith) (λ a l. begun 1 0 (Load (cellNo (getD e 4 0))) a (omega arith))
-      (λ a l. begun 2 6 (Store (wordAt e 6)) a (omega arith)) (λ a. begun 3 6 Release a (omega arith)) (λ a. begun 4 6 Validate a (omega arith))
+      (λ a l. begun 2 6 (Store (wordAt e 6)) a (omega arith)) (λ a. rw (a .kind) (omega arith)) (λ a. begun 3 6 Release a (omega arith)) (λ a. begun 4 6 Validate a (omega arith))
       (λ d s. row m e h (s .task) (taskOf m e .phase) d (s .kind) refl (moves (taskOf m e) (seenOf m (taskOf m e)) d (s .does)))
     where
       begun : (κ f : ℕ) (c : Call) → Asks m e κ f → Settles (m .cells) κ (onward (taskOf m e) f) (begunOf (taskOf m e) c) → Pays m e (begunBy m e c)
@@ -132,7 +132,7 @@ module _ (on : ℕ → Bool) where
   stays : (m : Machine) (e : List ℕ) → (applyOf m e .machine .p ≡ m .p) × (length (applyOf m e .machine .tasks) ≡ length (m .tasks))
   stays m e =
       by-entry m e (λ a. (a .machine .p ≡ m .p) × (length (a .machine .tasks) ≡ length (m .tasks))) (λ i r w. (refl, refl))
-      (λ a l. (refl, simp length-set)) (λ a l. (refl, simp length-set)) (λ a. (refl, simp length-set)) (λ a. (refl, simp length-set)) (λ d s. (refl, simp length-set))
+      (λ a l. (refl, simp length-set)) (λ a l. (refl, simp length-set)) (λ a. (refl, refl)) (λ a. (refl, simp length-set)) (λ a. (refl, simp length-set)) (λ d s. (refl, simp length-set))
 
   -- and so does every schedule
   pub run-pays : (es : List (List ℕ)) (m : Machine) → m .p ≤ length (m .tasks)

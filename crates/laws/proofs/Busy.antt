@@ -86,6 +86,7 @@ entry-some m e K =
     by-entry m e (λ a. Some m → Some (a .machine)) (λ i r w s. s)
     (λ a l. carried m K e (a .task) (begunOf t (Load (cellNo (getD e 4 0)))) Nothing refl (λ h k. absurd k))
     (λ a l. carried m K e (a .task) (begunOf t (Store (wordAt e 6))) Nothing refl (λ h k. h (rw (a .phase) tt)))
+    (λ a s. s)
     (λ a. carried m K e (a .task) (begunOf t Release) Nothing refl (λ h k. h (rw (a .phase) tt)))
     (λ a. carried m K e (a .task) (begunOf t Validate) Nothing refl (λ h k. h (rw (a .phase) tt)))
     (λ d s. row m K e (s .task) (t .phase) d refl (moves t (seenOf m t) d (s .does)))

@@ -2,8 +2,8 @@
 use Prim.Native.Nat.{ℕ, _+_, _-_, _*_, _≤_, _<_}
 use native.Mathlib.Omega.{arith}
 use mathlib.Core.Path.{_≡_, refl, sym, _∙_}
-use mathlib.Core.Bool.{true, _||_, false≢true}
-use mathlib.Core.List.{List, [], _∷_}
+use mathlib.Core.Bool.{true, false≢true}
+use mathlib.Core.List.{List}
 use mathlib.Core.Logic.{_≢_}
 use lib.Dec.{T, eqb}
 use lib.ListN.{getD, set}
@@ -12,24 +12,22 @@ use Rattle.tallies.proofs.Lists.{within-true, every-true, by-test}
 use Rattle.tallies.specs.Tally.{bit}
 use Rattle.tallies.proofs.Tally.{T→true}
 use Rattle.tallies.proofs.Bounds.{total-part}
-use Rattle.answers.specs.Numbers.{numberOf}
+use Rattle.answers.proofs.Numbers.{only-22}
 use Rattle.tasks.specs.Records.{onward, probing, taskOk}
-use Rattle.tasks.specs.Phases.{isPhase, holds}
+use Rattle.tasks.specs.Phases.{isPhase, resting, holds}
 use Rattle.steps.specs.Table.{after, freeAfter, recountedOf, raisedOf, loweredOf, counting, leaving, s6, rows, noPhase, effectOf}
 use Rattle.tables.specs.Tables.{sizesOk, cellOk, countOk, taskOkIn}
 use Rattle.cells.specs.Machine.{seenOf, poolOk, inRange}
 use Rattle.cells.specs.Apply.{applyOf}
-use Rattle.runs.specs.Counts.{accepted}
-use Rattle.entries.specs.Schedule.{entriesOf}
-use Rattle.runs.specs.Run.{reportOf, counted, ranFrom, ranOf}
-use Rattle.laws.specs.Types.{Answer, Replied, Refused, Reply, Moved, Loaded, Took, Lost, Released, Good, Gone, Sizes, NoTask, NoKind, NoCell, NotZero, NotNow, NoStep, OtherCell, WrongMark, TooShort, NoRoom, Damaged, TooLong, NotALine, TooLarge, OutputShort, NodeNo, Task, Seen, Count, To, Effect, Does, Refuses, Machine, Report, Ran}
+use Rattle.runs.specs.Run.{ranOf}
+use Rattle.laws.specs.Types.{Replied, Refused, Reply, Moved, Lost, Released, NoStep, Damaged, NodeNo, Task, Seen, Count, To, Effect, Does, Refuses, Machine}
 use Rattle.laws.specs.Kept.{Kept}
 use Rattle.laws.proofs.Phases.{by-phase}
 use Rattle.laws.proofs.Entries.{Damage, by-range, by-step, by-entry}
 use Rattle.laws.proofs.Keeps.{task, freed}
 use Rattle.laws.proofs.Table.{entry-keeps}
 use Rattle.laws.proofs.Room.{shared-out, count-most, can-lower, can-raise}
-use Rattle.laws.proofs.Runs.{Run, damaged, too-long, no-room, tries, run}
+use Rattle.laws.proofs.Runs.{run-never}
 
 module _ (m : Machine) (K : Kept m) where
   -- every test of the ranges passes
@@ -69,7 +67,7 @@ module _ (m : Machine) (K : Kept m) where
   -- a step is made, or the task is idle or linked
   abbrev pub Steady : ℕ → Effect → Type 0
   Steady f (Does d) = Unit {0}
-  Steady f (Refuses r) = (r ≡ NoStep) × T (eqb f 0 || eqb f 6)
+  Steady f (Refuses r) = (r ≡ NoStep) × T (resting f)
 
   module _ (q : ℕ) (hq : q < m .p) where
     abbrev t : Task
@@ -129,7 +127,7 @@ module _ (m : Machine) (K : Kept m) where
   -- no entry is answered with 22, neither by the ranges nor by the step
   pub entry-undamaged : (e : List ℕ) → applyOf m e .answer ≢ Refused Damaged
   entry-undamaged e = by-entry m e (λ a. a .answer ≢ Refused Damaged) (λ i r w q. neither (w (cc)))
-      (λ a h. clash Moved) (λ a h. clash Moved) (λ a. clash Moved) (λ a. clash Moved) (λ d s. clash (d .reply))
+      (λ a h. clash Moved) (λ a h. clash Moved) (λ a. clash Lost) (λ a. clash Moved) (λ a. clash Moved) (λ d s. clash (d .reply))
     where
       clash : (r : Reply) → Replied r ≢ Refused Damaged
       clash r q = let z : _≡_ {A = ℕ} 0 1 = cc in omega arith
@@ -140,45 +138,8 @@ module _ (m : Machine) (K : Kept m) where
           let w : Damaged ≡ NoStep = rw q at (steady (getD e 2 0) h) .0 in
           let z : _≡_ {A = ℕ} 0 1 = cc in omega arith
 
--- 22 is the number of one refusal alone, and of no reply
-number-22 : (a : Answer) → a ≢ Refused Damaged → numberOf a ≢ 22
-number-22 (Replied Moved) ne = omega arith
-number-22 (Replied (Loaded v)) ne = omega arith
-number-22 (Replied Took) ne = omega arith
-number-22 (Replied Lost) ne = omega arith
-number-22 (Replied Released) ne = omega arith
-number-22 (Replied Good) ne = omega arith
-number-22 (Replied Gone) ne = omega arith
-number-22 (Refused Sizes) ne = omega arith
-number-22 (Refused NoTask) ne = omega arith
-number-22 (Refused NoKind) ne = omega arith
-number-22 (Refused NoCell) ne = omega arith
-number-22 (Refused NotZero) ne = omega arith
-number-22 (Refused NotNow) ne = omega arith
-number-22 (Refused NoStep) ne = omega arith
-number-22 (Refused OtherCell) ne = omega arith
-number-22 (Refused WrongMark) ne = omega arith
-number-22 (Refused TooShort) ne = omega arith
-number-22 (Refused NoRoom) ne = omega arith
-number-22 (Refused Damaged) ne = λ q. ne refl
-number-22 (Refused TooLong) ne = omega arith
-number-22 (Refused NotALine) ne = omega arith
-number-22 (Refused TooLarge) ne = omega arith
-number-22 (Refused OutputShort) ne = omega arith
-
-entries-undamaged : (es : List (List ℕ)) (m : Machine) (r : Report) → Kept m → r .refusal ≢ 22 → ranFrom m r es .report .refusal ≢ 22
-unfolding ranFrom
-entries-undamaged [] m r K ne = ne
-entries-undamaged (e ∷ es) m r K ne =
-    by-test (λ (a : Ran). a .report .refusal ≢ 22) (accepted (applyOf m e .answer)) _ _
-    (λ q. entries-undamaged es (applyOf m e .machine) (counted m e r) (entry-keeps m e K) ne) (λ q. number-22 (applyOf m e .answer) (entry-undamaged m K e))
-
 -- no run reports 22
 pub run-undamaged : (m : Machine) (s : List ℕ) (room : ℕ) → Kept m → ranOf m s room .report .refusal ≢ 22
-run-undamaged m s room K = go (run m s room)
-  where
-    go : {a : Ran} {l : List ℕ} → Run m s room a l → a .report .refusal ≢ 22
-    go (damaged q) = absurd (false≢true (sym q ∙ in-range m K))
-    go (too-long q h) = omega arith
-    go (no-room q h k) = omega arith
-    go (tries q h k) = entries-undamaged (entriesOf s) m (reportOf 0) K (omega arith)
+run-undamaged m s room K =
+    run-never 22 Kept entry-keeps (λ m e K. only-22 (applyOf m e .answer) (entry-undamaged m K e)) m s room K
+    (λ q. absurd (false≢true (sym q ∙ in-range m K))) (omega arith) (omega arith) (omega arith)

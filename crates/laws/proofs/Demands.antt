@@ -6,17 +6,20 @@ use mathlib.Core.Bool.{true, false, Bool}
 use mathlib.Core.List.{List, [], _∷_, _++_}
 use mathlib.Core.Logic.{_≢_}
 use lib.ListN.{length, getD, take, drop}
+use Rattle.wire.specs.Bytes.{wordAt}
+use Rattle.answers.specs.Numbers.{numberOf}
+use Rattle.answers.proofs.Numbers.{no-18}
 use Rattle.tables.specs.Tables.{valueGiven}
 use Rattle.cells.specs.Machine.{seenOf, inRange}
 use Rattle.cells.specs.Apply.{applyOf}
 use Rattle.cells.specs.Setup.{blankOf, setupOf}
 use Rattle.cells.specs.declared.free.FreeCount.the-variants.{Free}
 use Rattle.cells.specs.Free.{freeNodes}
-use Rattle.runs.specs.Counts.{accepted, taskOf, anywhere, loadsAt, stepsAt, turnedAt, swapsAt}
+use Rattle.runs.specs.Counts.{accepted, kindOf, taskOf, anywhere, loadsAt, stepsAt, turnedAt, swapsAt}
 use Rattle.entries.specs.Schedule.{entriesIn, entriesOf}
 use Rattle.runs.specs.Run.{replyBytes, repliesOf, untriedOf, ranOf, bufferOf, notedOf}
 use Rattle.figure1.specs.Figure1.{Call, store, validate, Result, took, lost, good, gone}
-use Rattle.figure1.specs.Histories.{State, Event, begins, ends, after, afterAll, given, Follows, start}
+use Rattle.figure1.specs.Histories.{State, Event, begins, acts, ends, after, afterAll, given, Follows, start}
 use Rattle.figure1.specs.Counts.{beginsBy, actsBy, endsBy, number}
 use Rattle.figure1.specs.Calls.{Acted, Called}
 use Rattle.figure1.specs.Validate.{Unwritten, Decides}
@@ -24,23 +27,24 @@ use Rattle.figure1.specs.Engine.{history}
 use Rattle.figure1.proofs.Lift.{follows-split}
 use Rattle.figure1.proofs.Once.{finished, unfinished, in-order, cells-stay}
 use Rattle.figure1.proofs.Validate.{validate-decided, store-decided}
-use Rattle.laws.specs.Types.{Refused, Refusal, NoRoom, Damaged, TooLong, Deed, Machine, Ready, NotSetUp}
+use Rattle.laws.specs.Types.{Answer, Refused, Refusal, NoRoom, Damaged, TooLong, Deed, Machine, Ready, NotSetUp}
 use Rattle.laws.specs.Acts.{Matches, finishes, eventsOf}
 use Rattle.laws.specs.Validate.{Validated}
 use Rattle.laws.specs.Schedules.{applied, tried, before, entry, Reached, Scheduled, over}
 use Rattle.laws.specs.Beyond.{Bare, Alike, Alike-after}
-use Rattle.laws.specs.Accepts.{Fits}
-use Rattle.laws.specs.Outcomes.{Asks, Outcome, Steps}
+use Rattle.laws.specs.Accepts.{Formed, Fits, StoreAnswered}
+use Rattle.laws.specs.Outcomes.{Asks, Unlinked, Outcome, Steps, lostBy}
 use Rattle.laws.specs.Moves.{Moves}
 use Rattle.laws.proofs.Entries.{outcome, refused-leaves}
 use Rattle.laws.proofs.Rows.{moves}
 use Rattle.laws.proofs.Accepts.{takes, fits}
 use Rattle.laws.proofs.Start.{setup-kept, setup-blank}
-use Rattle.laws.proofs.Runs.{run-damaged, run-long, run-no-room, run-tries, buffer-length, buffer-past}
+use Rattle.laws.proofs.Runs.{run-damaged, run-long, run-no-room, run-tries, buffer-length, buffer-past, run-no-18}
 use Rattle.laws.proofs.Reached.{schedule-keeps, reached-kept, scheduled}
 use Rattle.laws.proofs.Beyond.{reached-bare, entry-alike}
 use Rattle.laws.proofs.Damage.{in-range, entry-undamaged, run-undamaged}
 use Rattle.laws.proofs.Engine.{pool, follows, matches, answered, replies-follow}
+use Rattle.laws.proofs.Stores.{store-answered, store-unlinked}
 use Rattle.laws.proofs.Validate as Validate
 use lib.Dec.{T, eqb}
 use Rattle.tallies.specs.Lists.{within}
@@ -96,6 +100,11 @@ pub never-damaged : {m : Machine} → Reached m
     → (inRange m ≡ true) × ((e : List ℕ) → applyOf m e .answer ≢ Refused Damaged) × ((s : List ℕ) (room : ℕ) → ranOf m s room .report .refusal ≢ 22)
 never-damaged {m} r = (in-range m (reached-kept r), entry-undamaged m (reached-kept r), λ s room. run-undamaged m s room (reached-kept r))
 
+-- 18, which document 02 gives no more, is the number of no answer: of no reply, and of no refusal of a setup, an entry or a text (answers' Numbers);
+-- and no run reports it, whatever the record and the bytes (Runs)
+pub never-18 : ((a : Answer) → numberOf a ≢ 18) × ((m : Machine) (s : List ℕ) (room : ℕ) → ranOf m s room .report .refusal ≢ 18)
+never-18 = (no-18, run-no-18)
+
 -- past N, P and K a record reached from an accepted setup is all zero (Beyond)
 pub zero-past : {m : Machine} → Reached m → Bare m
 zero-past = reached-bare
@@ -104,15 +113,20 @@ zero-past = reached-bare
 pub past-makes-no-difference : (m m′ : Machine) → Alike m m′ → (e : List ℕ) → Alike-after (applyOf m e) (applyOf m′ e)
 past-makes-no-difference = entry-alike
 
--- DEMAND 2. An accepted entry does the step of the table and nothing else; and over every schedule from an accepted setup the cells'
--- values and what finished calls gave are figure 1's, each call acting where the demand says (`actsFrom` in laws/specs/Acts).
+-- DEMAND 2. An accepted entry begins a call, does the step of the table or is a store that is lost at once, and nothing else; and over every schedule
+-- from an accepted setup the cells' values and what finished calls gave are figure 1's, each call acting where the demand says (`actsFrom` and, for a
+-- store without a link, `atOnce` in laws/specs/Acts).
 
 -- a record reached from an accepted setup takes exactly the entries that fit it: whole and marked, of a task below P, and what that task may be
 -- asked (Accepts)
 pub accepted-exactly : {m : Machine} → Reached m → (e : List ℕ) → (Fits m e → accepted (applyOf m e .answer) ≡ true) × (accepted (applyOf m e .answer) ≡ true → Fits m e)
 accepted-exactly {m} r e = (takes m (reached-kept r) e, fits m (reached-kept r) e)
 
--- an entry is refused, begins a call, or makes a step (Entries), and the step is its phase's row of the table (Rows)
+-- and a store is answered by its cell, its task's phase and link, in that order (Stores)
+pub store-answers : {m : Machine} → Reached m → (e : List ℕ) → Formed m e → kindOf e ≡ 2 → StoreAnswered m e (applyOf m e)
+store-answers {m} r e = store-answered m (reached-kept r) e
+
+-- an entry is refused, begins a call, is a store that is lost at once, or makes a step (Entries), and the step is its phase's row of the table (Rows)
 pub entry-does : (m : Machine) (e : List ℕ) → Outcome m e (applyOf m e)
 entry-does = outcome
 
@@ -131,11 +145,22 @@ module _ (s : List ℕ) (used : ℕ) (ok : setupOf s .answer ≡ Ready used) (es
   pub figure1-holds : Follows first past × Matches (applied (setupOf s .machine) es) (afterAll first past)
   figure1-holds = (follows s used ok es, matches s used ok es)
 
-  -- an entry that finishes a call answers with figure 1's result: its last event is that call's end, and the call began in the history, acted
-  -- once since, and was given that result by figure 1 where it acted (Engine)
+  -- an entry that finishes a call answers with figure 1's result: its last event is that call's end, and the call began in the history or at
+  -- this entry, acted once since, and was given that result by figure 1 where it acted (Engine)
   pub answers-are-figure1s : (e : List ℕ) (x : Result) → finishes (applyOf (applied (setupOf s .machine) es) e .answer) ≡ x ∷ []
       → (us : List Event) × (eventsOf (applied (setupOf s .machine) es) e ≡ us ++ ends (getD e 2 0) x ∷ []) × Called (getD e 2 0) x first (past ++ us)
   answers-are-figure1s = answered s used ok es
+
+  -- a store without a link on its cell is answered lost and leaves the record, a link on another cell with it: a whole call at its own entry, where
+  -- figure 1 has the task outside S of the cell and gives it false, and no cell and no set changes (Stores)
+  pub store-without-link : (e : List ℕ) → Formed (applied (setupOf s .machine) es) e → kindOf e ≡ 2 → getD e 4 0 < applied (setupOf s .machine) es .n
+      → Unlinked (taskOf (applied (setupOf s .machine) es) e) (getD e 4 0)
+      → (applyOf (applied (setupOf s .machine) es) e ≡ lostBy (applied (setupOf s .machine) es) e)
+      × (eventsOf (applied (setupOf s .machine) es) e ≡ begins (getD e 2 0) (store (getD e 4 0) (wordAt e 6)) ∷ acts (getD e 2 0) ∷ ends (getD e 2 0) lost ∷ [])
+      × (afterAll first past .cells .member (getD e 4 0) (getD e 2 0) ≡ false)
+      × (given first past (getD e 2 0) (store (getD e 4 0) (wordAt e 6)) ≡ lost)
+      × (afterAll first (past ++ eventsOf (applied (setupOf s .machine) es) e) .cells ≡ afterAll first past .cells)
+  store-without-link = store-unlinked s used ok es
 
   -- a validate's step is answered good where its task is in S of its cell and gone where it is not; and that is, as source 004 has it, where
   -- no store to the cell took since the task's load (Validate)

@@ -2,11 +2,12 @@
 -- and the replies that a run writes are those of the entries of such a history. Assumes nothing.
 use Prim.Native.Nat.{ℕ, _*_, _≤_, _<_}
 use native.Mathlib.Omega.{arith}
-use mathlib.Core.Path.{_≡_, refl, ap}
+use mathlib.Core.Path.{_≡_, refl, ap, _∙_}
 use mathlib.Core.Bool.{true, cond}
 use mathlib.Core.List.{List, [], _∷_, _++_, append-nil, append-assoc}
 use lib.ListN.{length, getD, take, drop, length-drop}
 use lib.Seq.{take-append-le, drop-append-le}
+use Rattle.wire.specs.Bytes.{wordAt}
 use Rattle.tables.specs.Tables.{valueGiven}
 use Rattle.cells.specs.Machine.{inRange}
 use Rattle.cells.specs.Apply.{applyOf}
@@ -14,22 +15,22 @@ use Rattle.cells.specs.Setup.{setupOf}
 use Rattle.runs.specs.Counts.{taskOf}
 use Rattle.entries.specs.Schedule.{entriesIn, entriesOf}
 use Rattle.runs.specs.Run.{replyBytes, repliesFrom, bufferOf}
-use Rattle.figure1.specs.Figure1.{Result}
-use Rattle.figure1.specs.Histories.{Event, acts, ends, afterAll, Follows, start}
+use Rattle.figure1.specs.Figure1.{store, Result}
+use Rattle.figure1.specs.Histories.{Event, begins, acts, ends, afterAll, Follows, start}
 use Rattle.figure1.specs.Calls.{Called}
 use Rattle.figure1.specs.Engine.{Engine, run, history}
 use Rattle.figure1.proofs.Lift.{lift, history-append}
 use Rattle.figure1.proofs.Once.{called}
 use Rattle.laws.specs.Types.{Machine, Ready}
 use Rattle.laws.specs.Kept.{Kept}
-use Rattle.laws.specs.Acts.{Matches, actsFrom, finishes, eventsIn, eventsOf}
+use Rattle.laws.specs.Acts.{Matches, actsFrom, finishes, each, eventsIn, eventsOf}
 use Rattle.laws.specs.Schedules.{applied, tried, before, entry}
 use Rattle.laws.proofs.Entries.{by-entry, steppedBy}
 use Rattle.laws.proofs.Table.{entry-keeps}
 use Rattle.laws.proofs.Start.{setup-kept, setup-matches}
 use Rattle.laws.proofs.Reached.{schedule-keeps, applied-append}
 use Rattle.laws.proofs.Damage.{in-range}
-use Rattle.laws.proofs.Follows.{entry-fits}
+use Rattle.laws.proofs.Follows.{events-whole, entry-fits}
 use Rattle.laws.proofs.Runs.{replies-length, reply-at, replies-tried}
 
 -- the pool engine. The statements on Demands look only at its `next` and `events`; it stands here and not in specs/ because its last two fields
@@ -64,13 +65,16 @@ pub answer-ends : (m : Machine) (e : List ℕ) (x : Result) → finishes (applyO
 unfolding eventsOf
 answer-ends m e x =
     by-entry m e (λ a. finishes (a .answer) ≡ x ∷ [] → (us : List Event) × (eventsIn actsFrom (a .answer) m (a .machine) e ≡ us ++ ends (getD e 2 0) x ∷ []))
-    (λ i r k. none) (λ k h. none) (λ k h. none) (λ k. none) (λ k. none)
+    (λ i r k. none) (λ k h. none) (λ k h. none)
+    (λ k q. let us = begins (getD e 2 0) (store (getD e 4 0) (wordAt e 6)) ∷ acts (getD e 2 0) ∷ [] in
+    (us, events-whole actsFrom m m e (k .kind) ∙ ap (λ (l : List Result). us ++ each (ends (getD e 2 0)) l) q))
+    (λ k. none) (λ k. none)
     (λ d s q. (cond (actsFrom (taskOf m e .phase) (taskOf (steppedBy m e d .machine) e .phase)) (acts (getD e 2 0) ∷ []) [], rw (s .kind, q)))
   where
     none : {A : Type 0} → _≡_ {A = List Result} [] (x ∷ []) → A
     none q = absurd (omega (arith, ap length q))
 
--- so the call that an answer finishes began in the schedule's history, acted once since, and was given that result by figure 1
+-- so the call that an answer finishes began in the schedule's history or at this entry, acted once since, and was given that result by figure 1
 pub answered : (s : List ℕ) (used : ℕ) → setupOf s .answer ≡ Ready used → (es : List (List ℕ)) (e : List ℕ) (x : Result)
     → finishes (applyOf (applied (setupOf s .machine) es) e .answer) ≡ x ∷ []
     → (us : List Event) × (eventsOf (applied (setupOf s .machine) es) e ≡ us ++ ends (getD e 2 0) x ∷ [])

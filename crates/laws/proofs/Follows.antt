@@ -18,15 +18,16 @@ use Rattle.tasks.specs.Phases.{live, passed}
 use Rattle.steps.specs.Table.{effectOf}
 use Rattle.cells.specs.Machine.{seenOf, written}
 use Rattle.cells.specs.Apply.{applyOf}
+use Rattle.runs.specs.Counts.{kindOf}
 use Rattle.figure1.specs.Figure1.{put, Call, load, store, release, validate, value, took, lost, released, good, gone, nobody}
 use Rattle.figure1.specs.Histories.{Status, quiet, asked, acted, State, Event, begins, acts, ends, act, afterAll, Follows}
 use Rattle.figure1.proofs.Put.{put-same, put-other, put-in, set-put}
-use Rattle.laws.specs.Types.{TaskNo, Task, Nothing, Point, Value, Deed, Does, Machine}
+use Rattle.laws.specs.Types.{Replied, Lost, TaskNo, Task, Nothing, Point, Value, Deed, Does, Machine}
 use Rattle.laws.specs.Meaning.{points, claims}
 use Rattle.laws.specs.Kept.{Ready, InRange, Kept}
 use Rattle.laws.specs.Acts.{inSet, linkedAt, standing, Matches, actsFrom, ending, each, eventsIn, eventsOf}
 use Rattle.laws.proofs.Phases.{phase-gives}
-use Rattle.laws.proofs.Entries.{taskNo, by-entry}
+use Rattle.laws.proofs.Entries.{taskNo, Unlinked, idle, elsewhere, by-entry}
 use Rattle.laws.proofs.Rows.{Moves, l1, l2, l3-passed, l3-turned, l4, l5, s1, s2-swapped, s2-missed, s3-took, s3-shared, s5, s6-took, s6-busy, s7, r1, v1-good, v1-gone, moves}
 use Rattle.laws.proofs.Keeps.{task, in-list, put-here, in-cells, part}
 
@@ -35,10 +36,23 @@ standing-same : (vs vs′ : List ℕ) (f : ℕ) (t : Task) → (f ≡ 4 → getD
 standing-same vs vs′ f t h = elim (ℕ-discrete f 4) [ yes q ↦ rw q (ap (λ (v : ℕ). acted (value v)) (h q)) | no n ↦ rw (ne-eqb f 4 n) ]
 
 -- where x points at a node that no task of these phases holds, nobody is in S[x]
-unlinked : (v x : ℕ) (t : Task) → (T (inSet (t .phase)) → v ≢ t .held .0) → linkedAt v x t ≡ false
-unlinked v x t h =
+pointed-away : (v x : ℕ) (t : Task) → (T (inSet (t .phase)) → v ≢ t .held .0) → linkedAt v x t ≡ false
+pointed-away v x t h =
     either (λ b. (T b → v ≢ t .held .0) → (b && (eqb (t .cell .0) x && eqb v (t .held .0))) ≡ false) (inSet (t .phase))
     (λ q k. rw (ne-eqb v (t .held .0) (k tt)) (and-false (eqb (t .cell .0) x))) (λ q k. refl) h
+
+-- the whole call of a store that is lost at its own entry
+abbrev pub whole : ℕ → ℕ → ℕ → List Event
+whole p x y = begins p (store x y) ∷ acts p ∷ ends p lost ∷ []
+
+-- which its entry's events are
+pub events-whole : (acting : ℕ → ℕ → Bool) (m m′ : Machine) (e : List ℕ) → kindOf e ≡ 2 → eventsIn acting (Replied Lost) m m′ e ≡ whole (getD e 2 0) (getD e 4 0) (wordAt e 6)
+events-whole acting m m′ e k = rw (k, k)
+
+-- a task without a link on x is not in S[x], wherever x points
+pub no-part : (v x : ℕ) (t : Task) → Unlinked t x → linkedAt v x t ≡ false
+no-part v x t (idle q) = rw q
+no-part v x t (elsewhere q n) = rw (q, ne-eqb (t .cell .0) x n)
 
 module _ (m : Machine) (K : Kept m) (p : TaskNo) (hp : p .0 < m .p) (a : State) (M : Matches m a) where
   abbrev t : Task
@@ -168,7 +182,7 @@ module _ (m : Machine) (K : Kept m) (p : TaskNo) (hp : p .0 < m .p) (a : State) 
     where
       -- whoever passed a check holds another node than the one that the cell points at now
       gone : (y q : ℕ) → q < m .p → linkedAt (t .own .0) y (task m q) ≡ false
-      gone y q hq = unlinked (t .own .0) y (task m q) (λ k. let h : T (live 8) → t .own .0 ≢ task m q .held .0 = rw e at (K .held q (p .0) hq hp (phase-gives inSet passed tt (task m q .phase) (K .sound .each q hq .phase) k)) in h tt)
+      gone y q hq = pointed-away (t .own .0) y (task m q) (λ k. let h : T (live 8) → t .own .0 ≢ task m q .held .0 = rw e at (K .held q (p .0) hq hp (phase-gives inSet passed tt (task m q .phase) (K .sound .each q hq .phase) k)) in h tt)
 
   -- a store that misses: no part in S[x], nor in another set
   miss-acts : t ≡ at 8 → t .held .0 ≢ node x → Matches (written m p (at 13) Nothing) (act a (p .0) (asked (store x (t .value))))
@@ -245,6 +259,27 @@ module _ (m : Machine) (K : Kept m) (p : TaskNo) (hp : p .0 < m .p) (a : State) 
       → Follows a (begins (p .0) c ∷ []) × Matches (written m p t′ Nothing) (afterAll a (begins (p .0) c ∷ []))
   begin-fits f c t′ q w l s = let e = ap (onward t) q in ((stand f e ∙ w, tt), stands f t′ (m .counts) (asked c) e l s)
 
+  -- a store without a link: p is not in S[y], so that figure 1 gives lost and leaves the cells
+  lost-fits : (y v : ℕ) → y < m .n → Unlinked t y
+      → Follows a (whole (p .0) y v) × Matches m (afterAll a (whole (p .0) y v))
+  lost-fits y v hy u = rw (eq-eqb (p .0) (p .0) refl, sym (M .sets y (p .0) hy hp) ∙ no-part (node y) y t u) (
+    (calm, (tt, (put-same (put (a .status) (p .0) (asked (store y v))) (p .0) (acted lost), tt))),
+    record { vals = M .vals; sets = M .sets; calls = calls },
+  )
+    where
+      at-rest : Unlinked t y → standing (m .values) (t .phase) t ≡ quiet
+      at-rest (idle q) = rw q
+      at-rest (elsewhere q n) = rw q
+
+      calm : a .status (p .0) ≡ quiet
+      calm = sym (M .calls (p .0) hp) ∙ at-rest u
+
+      calls : (q : ℕ) → q < m .p → standing (m .values) (task m q .phase) (task m q) ≡ put (put (put (a .status) (p .0) (asked (store y v))) (p .0) (acted lost)) (p .0) quiet q
+      calls q hq = elim (ℕ-discrete q (p .0)) [
+        | yes w ↦ rw (w, eq-eqb (p .0) (p .0) refl) (at-rest u)
+        | no n ↦ rw (ne-eqb q (p .0) n) (M .calls q hq)
+      ]
+
 -- one entry, whatever its bytes
 pub entry-fits : (m : Machine) (e : List ℕ) (a : State) → Kept m → Matches m a → Follows a (eventsOf m e) × Matches (applyOf m e .machine) (afterAll a (eventsOf m e))
 unfolding eventsOf
@@ -253,6 +288,7 @@ entry-fits m e a K M =
     (λ i r w. (tt, M))
     (λ k h. rw (k .kind, k .kind) (begin-fits m K (taskNo e) (k .task) a M 0 (load (getD e 4 0)) _ (k .phase) refl (λ y. refl) refl))
     (λ k h. rw (k .kind, k .kind) (begin-fits m K (taskNo e) (k .task) a M 6 (store (getD e 4 0) (wordAt e 6)) _ (k .phase) refl (λ y. refl) (rw h)))
+    (λ k. rw (events-whole actsFrom m m e (k .kind)) (lost-fits m K (taskNo e) (k .task) a M (getD e 4 0) (wordAt e 6) (k .cell) (k .link)))
     (λ k. rw (k .kind, k .kind) (begin-fits m K (taskNo e) (k .task) a M 6 (release (task m (getD e 2 0) .cell .0)) _ (k .phase) refl (λ y. refl) refl))
     (λ k. rw (k .kind, k .kind) (begin-fits m K (taskNo e) (k .task) a M 6 (validate (task m (getD e 2 0) .cell .0)) _ (k .phase) refl (λ y. refl) refl))
     (λ d s. rw (s .kind, put-here m K (d .task) (s .task)) (step-fits m K (taskNo e) (s .task) a M d (s .does)))

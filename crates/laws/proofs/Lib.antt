@@ -12,6 +12,7 @@ pub mod Beyond
 pub mod Accepts
 pub mod Follows
 pub mod Engine
+pub mod Stores
 pub mod Validate
 pub mod Numbers
 pub mod Bound

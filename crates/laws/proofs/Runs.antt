@@ -1,16 +1,18 @@
 -- What a run does, whatever the record, the bytes and the room: it is refused before any entry, or it tries its entries. Its replies, one
--- for each entry tried, and what it leaves in the reply buffer. Assumes nothing.
+-- for each entry tried, what it leaves in the reply buffer, and numbers that it never reports. Assumes nothing.
 use Prim.Native.Nat.{ℕ, zero, suc, _+_, _-_, _*_, _≤_, _<_}
 use native.Mathlib.Omega.{arith}
 use native.Mathlib.Decide.{decLe}
 use mathlib.Core.Path.{_≡_, refl, ap, _∙_}
 use mathlib.Core.Bool.{Bool, true, false, cond}
 use mathlib.Core.List.{List, [], _∷_, _++_}
+use mathlib.Core.Logic.{_≢_}
 use lib.ListN.{length, getD, take, drop, length-append, length-drop}
 use lib.Seq.{drop-append-add, getD-append-add, getD-drop}
 use borrow.Author.Tests.{lt-ltb, le-ltb, le-leb, lt-leb}
-use Rattle.tallies.proofs.Lists.{either}
+use Rattle.tallies.proofs.Lists.{either, by-test}
 use Rattle.answers.specs.Numbers.{numberOf}
+use Rattle.answers.proofs.Numbers.{no-18}
 use Rattle.cells.specs.Machine.{inRange}
 use Rattle.cells.specs.Apply.{applyOf}
 use Rattle.runs.specs.Counts.{accepted}
@@ -145,3 +147,28 @@ reply-at (e ∷ es) m (suc i) h =
     rw (e₈, drop-append-add (replyBytes (applyOf m e)) _ (8 * i)) (
     either (λ b. suc i < suc (length (es′ b)) → take 8 (drop (8 * i) (cond b (repliesFrom m′ es) [])) ≡ replyBytes (applyOf (applied m′ (take i (es′ b))) (getD (es′ b) i [])))
     (accepted (applyOf m e .answer)) (λ q k. reply-at es m′ i (omega arith)) (λ q k. absurd (omega arith)) h)
+
+-- a number that no entry is answered with, in records of which `In` holds and goes on holding
+module _ (number : ℕ) (In : Machine → Type 0) (keeps : (m : Machine) (e : List ℕ) → In m → In (applyOf m e .machine)) (never : (m : Machine) (e : List ℕ) → In m → numberOf (applyOf m e .answer) ≢ number) where
+  entries-never : (es : List (List ℕ)) (m : Machine) (r : Report) → In m → r .refusal ≢ number → ranFrom m r es .report .refusal ≢ number
+  unfolding ranFrom
+  entries-never [] m r i ne = ne
+  entries-never (e ∷ es) m r i ne =
+      by-test (λ (a : Ran). a .report .refusal ≢ number) (accepted (applyOf m e .answer)) _ _
+      (λ q. entries-never es (applyOf m e .machine) (counted m e r) (keeps m e i) ne) (λ q. never m e i)
+
+  -- no run reports it, but for what a run is refused with before any entry
+  pub run-never : (m : Machine) (s : List ℕ) (room : ℕ) → In m → (inRange m ≡ false → 22 ≢ number) → 23 ≢ number → 21 ≢ number → 0 ≢ number → ranOf m s room .report .refusal ≢ number
+  run-never m s room i broken long short none = go (run m s room)
+    where
+      go : {a : Ran} {l : List ℕ} → Run m s room a l → a .report .refusal ≢ number
+      go (damaged q) = broken q
+      go (too-long q h) = long
+      go (no-room q h k) = short
+      go (tries q h k) = entries-never (entriesOf s) m (reportOf 0) i none
+
+-- no run reports 18, whatever the record
+pub run-no-18 : (m : Machine) (s : List ℕ) (room : ℕ) → ranOf m s room .report .refusal ≢ 18
+run-no-18 m s room =
+    run-never 18 (λ m. Unit {0}) (λ m e i. tt) (λ m e i. no-18 (applyOf m e .answer)) m s room tt
+    (λ q. omega arith) (omega arith) (omega arith) (omega arith)

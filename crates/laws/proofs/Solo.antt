@@ -4,7 +4,7 @@ use native.Mathlib.Omega.{arith}
 use native.Mathlib.Nat.{mod-lt, add-zero, add-assoc, mod-eq-of-lt, mod-add-mod}
 use native.Mathlib.Numerals.{one-add}
 use mathlib.Core.Path.{_≡_, refl, ap}
-use mathlib.Core.Bool.{Bool, true, false, cond, not, _||_}
+use mathlib.Core.Bool.{Bool, true, false, cond, not}
 use mathlib.Core.List.{[], _∷_}
 use mathlib.Core.Logic.{_≢_, _⊎_, inl, inr}
 use lib.Dec.{T, eqb, ltb}
@@ -17,7 +17,7 @@ use Rattle.tallies.specs.Tally.{bit}
 use Rattle.tallies.proofs.Tally.{bit-le, total-front, total-round, total-gap}
 use Rattle.tallies.proofs.Bounds.{total-last, round-back, round-on}
 use Rattle.tasks.specs.Records.{nodeNo}
-use Rattle.tasks.specs.Phases.{storing}
+use Rattle.tasks.specs.Phases.{resting, storing}
 use Rattle.steps.specs.Table.{after, effectOf}
 use Rattle.cells.specs.Machine.{seenOf, written, carriedOf}
 use Rattle.cells.specs.Apply.{applyOf}
@@ -35,7 +35,7 @@ use Rattle.laws.proofs.Rows.{Moves, l1, l2, l3-passed, l3-turned, l4, l
 
 -- a call is running
 abbrev busy : ℕ → Bool
-busy f = not (eqb f 0 || eqb f 6)
+busy f = not (resting f)
 
 -- the steps that a call still has to make, by its phase; a store that probes has its own
 abbrev due : Machine → Task → ℕ → ℕ
@@ -120,7 +120,7 @@ module _ (p : ℕ) where
       where
         go : (x : Effect) → effectOf t s ≡ x → Steady m K (t .phase) x → (d : Deed) × (effectOf t s ≡ Does d)
         go (Does d) q w = (d, q)
-        go (Refuses r) q w = absurd (none (eqb (t .phase) 0 || eqb (t .phase) 6) b (w .1))
+        go (Refuses r) q w = absurd (none (resting (t .phase)) b (w .1))
           where
             none : (c : Bool) → T (not c) → T c → ⊥
             none true h k = h

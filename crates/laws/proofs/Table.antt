@@ -222,6 +222,7 @@ entry-keeps m e K =
     by-entry m e (λ a. Kept (a .machine)) (λ i r w. K)
     (λ a h. load-keeps m K (taskNo e) (a .task) (cellNo (getD e 4 0)) (a .phase) h)
     (λ a h. store-keeps m K (taskNo e) (a .task) (wordAt e 6) (a .phase))
+    (λ a. K)
     (λ a. release-keeps m K (taskNo e) (a .task) (a .phase))
     (λ a. validate-keeps m K (taskNo e) (a .task) (a .phase))
     (λ d s. step-keeps m K (taskNo e) (s .task) d (s .does))

@@ -71,7 +71,7 @@ module _ (s : List ℕ) (used : ℕ) (ok : setupOf s .answer ≡ Ready used) (es
   pub validate-tells : accepted (applyOf m e .answer) ≡ true → Asks m e 0 15 → Told (applyOf m e .answer)
   validate-tells =
       by-entry m e (λ b. accepted (b .answer) ≡ true → Asks m e 0 15 → Told (b .answer)) (λ i r w h. absurd (false≢true h))
-      (λ b l h a. other 0 (b .kind) a) (λ b l h a. other 1 (b .kind) a) (λ b h a. other 2 (b .kind) a) (λ b h a. other 3 (b .kind) a)
+      (λ b l h a. other 0 (b .kind) a) (λ b l h a. other 1 (b .kind) a) (λ b h a. other 1 (b .kind) a) (λ b h a. other 2 (b .kind) a) (λ b h a. other 3 (b .kind) a)
       (λ d w h a. row a d w)
     where
       other : {A : Type 0} (k : ℕ) → kindOf e ≡ suc k → Asks m e 0 15 → A

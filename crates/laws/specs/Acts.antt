@@ -85,11 +85,21 @@ abbrev pub each : {A B : Type 0} → (A → B) → List A → List B
 each f [] = []
 each f (x ∷ xs) = f x ∷ each f xs
 
+-- a call that is answered lost at its own entry, a store without a link, acts there and ends
+abbrev pub atOnce : ℕ → Reply → List Event
+atOnce p Moved = []
+atOnce p (Loaded v) = []
+atOnce p Took = []
+atOnce p Lost = acts p ∷ ends p lost ∷ []
+atOnce p Released = []
+atOnce p Good = []
+atOnce p Gone = []
+
 -- the events of an accepted entry of task p: go may end a call and, where `acting` says so of the phases before and after it, acts; the other kinds
--- begin a call
+-- begin a call, which may be lost at once
 abbrev pub eventsBy : (ℕ → ℕ → Bool) → Bool → ℕ → Machine → Machine → List ℕ → Reply → List Event
 eventsBy acting true p m m′ e r = cond (acting (taskOf m e .phase) (taskOf m′ e .phase)) (acts p ∷ []) [] ++ each (ends p) (ending r)
-eventsBy acting false p m m′ e r = each (begins p) (beginning (kindOf e) e (taskOf m e))
+eventsBy acting false p m m′ e r = each (begins p) (beginning (kindOf e) e (taskOf m e)) ++ atOnce p r
 
 -- a refused entry has none
 abbrev pub eventsIn : (ℕ → ℕ → Bool) → Answer → Machine → Machine → List ℕ → List Event

@@ -8,7 +8,7 @@ pub use Rattle.tasks.specs.declared.Call.the-variants.{Load, Store, Release, Va
 pub use Rattle.answers.specs.declared.Reply.{Reply}
 pub use Rattle.answers.specs.declared.Reply.the-variants.{Moved, Loaded, Took, Lost, Released, Good, Gone}
 pub use Rattle.answers.specs.declared.Refusal.{Refusal}
-pub use Rattle.answers.specs.declared.Refusal.the-variants.{Sizes, NoTask, NoKind, NoCell, NotZero, NotNow, NoStep, OtherCell, WrongMark, TooShort, NoRoom, Damaged, TooLong, NotALine, TooLarge, OutputShort}
+pub use Rattle.answers.specs.declared.Refusal.the-variants.{Sizes, NoTask, NoKind, NoCell, NotZero, NotNow, NoStep, WrongMark, TooShort, NoRoom, Damaged, TooLong, NotALine, TooLarge, OutputShort}
 pub use Rattle.answers.specs.declared.Answer.{Answer}
 pub use Rattle.answers.specs.declared.Answer.the-variants.{Replied, Refused}
 pub use Rattle.steps.specs.declared.Seen.{Seen}

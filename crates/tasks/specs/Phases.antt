@@ -8,6 +8,10 @@ use Rattle.tallies.specs.Lists.{within}
 abbrev pub isPhase : ℕ → Bool
 isPhase f = leb f 15 && not (eqb f 10)
 
+-- no call runs: idle (0) or linked (6)
+abbrev pub resting : ℕ → Bool
+resting f = eqb f 0 || eqb f 6
+
 -- the task holds its m: phases 3 to 9, 11 and 13 to 15
 abbrev pub holds : ℕ → Bool
 holds f = within 3 9 f || eqb f 11 || within 13 15 f
