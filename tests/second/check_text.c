@@ -242,17 +242,33 @@ static const uint8_t TWO[] = {
 
 static const char TWO_LINES[] = "1,2,3,4\n250,251,252,16776957\n";
 
-/* Both entries with one byte set to another value, or with two. */
-static bool bad_bytes(size_t at, uint8_t byte, size_t other, uint8_t other_byte,
-                      size_t length, uint32_t refusal)
-{
-    uint8_t entries[sizeof TWO];
-
-    memcpy(entries, TWO, sizeof entries);
-    entries[at] = byte;
-    entries[other] = other_byte;
-    return refuses(text_export, entries, length, sizeof output, refusal);
-}
+/* Both entries with one byte set to another value, or with two, and how many
+ * bytes of them are handed over. */
+static const struct bad_entries {
+    const char *what;
+    uint8_t at, byte, other, other_byte, length, refusal;
+} BAD_ENTRIES[] = {
+    { "first byte of the mark", 0, 0x44, 0, 0x44, 20, 19 },
+    { "second byte of the mark", 1, 0x4F, 1, 0x4F, 20, 19 },
+    { "the mark's bytes exchanged", 0, 0x4E, 1, 0x45, 20, 19 },
+    { "a reply's mark", 0, 0x41, 0, 0x41, 20, 19 },
+    { "a setup's mark", 0, 0x53, 1, 0x55, 20, 19 },
+    { "first byte of the second mark", 10, 0, 10, 0, 20, 19 },
+    { "second byte of the second mark", 11, 0, 11, 0, 20, 19 },
+    { "sixth byte 1", 5, 1, 5, 1, 20, 15 },
+    { "sixth byte 0x80", 5, 0x80, 5, 0x80, 20, 15 },
+    { "second entry's sixth byte", 15, 0xFF, 15, 0xFF, 20, 15 },
+    /* of one entry: cut, then the mark, then the sixth byte */
+    { "mark before the sixth byte", 0, 0, 5, 1, 20, 19 },
+    { "the same in the second entry", 11, 0, 15, 1, 20, 19 },
+    { "a byte short, before both", 10, 0, 15, 1, 19, 20 },
+    { "one byte alone, before its mark", 10, 0, 11, 0, 11, 20 },
+    /* of two entries: the earlier */
+    { "sixth byte, then a mark", 5, 1, 10, 0, 20, 15 },
+    { "mark, then a sixth byte", 0, 0, 15, 1, 20, 19 },
+    { "sixth byte, then a cut entry", 5, 1, 5, 1, 19, 15 },
+    { "mark, then a cut entry", 0, 0, 0, 0, 11, 19 },
+};
 
 static void check_bad_entries(void)
 {
@@ -260,27 +276,16 @@ static void check_bad_entries(void)
         if (length != ENTRY_BYTES)
             CHECK(refuses(text_export, TWO, length, sizeof output, 20));
 
-    CHECK(bad_bytes(0, 0x44, 0, 0x44, 20, 19));
-    CHECK(bad_bytes(1, 0x4F, 1, 0x4F, 20, 19));
-    CHECK(bad_bytes(0, 0x4E, 1, 0x45, 20, 19));
-    CHECK(bad_bytes(0, 0x41, 0, 0x41, 20, 19)); /* a reply's mark */
-    CHECK(bad_bytes(0, 0x53, 1, 0x55, 20, 19)); /* a setup's */
-    CHECK(bad_bytes(10, 0, 10, 0, 20, 19));
-    CHECK(bad_bytes(11, 0, 11, 0, 20, 19));
-    CHECK(bad_bytes(5, 1, 5, 1, 20, 15));
-    CHECK(bad_bytes(5, 0x80, 5, 0x80, 20, 15));
-    CHECK(bad_bytes(15, 0xFF, 15, 0xFF, 20, 15));
+    for (size_t i = 0; i < sizeof BAD_ENTRIES / sizeof BAD_ENTRIES[0]; i++) {
+        const struct bad_entries *bad = &BAD_ENTRIES[i];
+        uint8_t entries[sizeof TWO];
 
-    /* of one entry: cut, then the mark, then the sixth byte */
-    CHECK(bad_bytes(0, 0, 5, 1, 20, 19));
-    CHECK(bad_bytes(11, 0, 15, 1, 20, 19));
-    CHECK(bad_bytes(10, 0, 15, 1, 19, 20));
-    CHECK(bad_bytes(10, 0, 11, 0, 11, 20));
-    /* of two entries: the earlier */
-    CHECK(bad_bytes(5, 1, 10, 0, 20, 15));
-    CHECK(bad_bytes(0, 0, 15, 1, 20, 19));
-    CHECK(bad_bytes(5, 1, 5, 1, 19, 15));
-    CHECK(bad_bytes(0, 0, 0, 0, 11, 19));
+        memcpy(entries, TWO, sizeof entries);
+        entries[bad->at] = bad->byte;
+        entries[bad->other] = bad->other_byte;
+        check(refuses(text_export, entries, bad->length, sizeof output, bad->refusal),
+              bad->what, __LINE__);
+    }
 }
 
 static void check_rooms(void)

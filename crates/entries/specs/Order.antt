@@ -26,7 +26,7 @@ linkedTo t x = eqb (t .phase) 6 && eqb (t .cell .0) (x .0)
 unfoldable pub storeOf : Task → CellNo → ℕ → Effect
 storeOf t x y =
     cond (not (resting (t .phase))) (Refuses NotNow)  -- 16
-    (cond (not (linkedTo t x)) (does t Nothing Lost)
+    (cond (not (linkedTo t x)) (does t Nothing Lost)  -- reply 3
     (begins t (Store y)))
 
 -- a release and a validate start where the task is linked

@@ -5,10 +5,10 @@ use mathlib.Core.Path.{_≡_, refl, sym, _∙_}
 use mathlib.Core.Bool.{Bool, true, false, not, _||_, false≢true}
 use mathlib.Core.List.{List}
 use mathlib.Core.Logic.{_≢_}
-use lib.Dec.{T, eqb, leb, ltb}
+use lib.Dec.{eqb, leb, ltb}
 use lib.ListN.{length, getD}
 use borrow.Author.Tests.{lt-leb, leb-true, leb-false, ltb-true, ltb-false, eqb-true, eqb-false, not-true, not-false}
-use Rattle.tallies.proofs.Lists.{by-test}
+use Rattle.tallies.proofs.Lists.{either, by-test}
 use Rattle.wire.specs.Bytes.{entryMark, marked, wordAt}
 use Rattle.tasks.specs.Records.{cellNo}
 use Rattle.tasks.specs.Phases.{resting}
@@ -53,7 +53,7 @@ module _ (m : Machine) (K : Kept m) (e : List ℕ) where
     kinds = at-most (f .asks)
       where
         at-most : May m e → kindOf e ≤ 4
-        at-most (go k c y f0 f6) = omega arith
+        at-most (go k c y r) = omega arith
         at-most (load k c y f0) = omega arith
         at-most (store k c r) = omega arith
         at-most (release k c y f6) = omega arith
@@ -64,7 +64,7 @@ module _ (m : Machine) (K : Kept m) (e : List ℕ) where
     zeros = by-kind (f .asks)
       where
         by-kind : May m e → nonzero entry ≡ false
-        by-kind (go k c y f0 f6) = rw (f .formed .zero, k, c, y)
+        by-kind (go k c y r) = rw (f .formed .zero, k, c, y)
         by-kind (load k c y f0) = rw (f .formed .zero, k, y)
         by-kind (store k c r) = rw (f .formed .zero, k)
         by-kind (release k c y f6) = rw (f .formed .zero, k, c, y)
@@ -75,26 +75,21 @@ module _ (m : Machine) (K : Kept m) (e : List ℕ) where
     within = by-kind (f .asks)
       where
         by-kind : May m e → outside (m .n) entry ≡ false
-        by-kind (go k c y f0 f6) = rw k
+        by-kind (go k c y r) = rw k
         by-kind (load k c y f0) = rw (k, lt-leb (m .n) (getD e 4 0) c)
         by-kind (store k c r) = rw (k, lt-leb (m .n) (getD e 4 0) c)
         by-kind (release k c y f6) = rw k
         by-kind (validate k c y f6) = rw k
 
-    -- a step is made where the task is neither idle nor linked
-    made : t .phase ≢ 0 → t .phase ≢ 6 → (x : Effect) → Steady m K (t .phase) x → Taken x
+    -- a step is made where a call runs
+    made : resting (t .phase) ≡ false → (x : Effect) → Steady m K (t .phase) x → Taken x
     unfolding carriedOf
-    made f0 f6 (Does d) s = refl
-    made f0 f6 (Refuses r) s = absurd (off (eqb (t .phase) 0) (eqb (t .phase) 6) (λ q. f0 (eqb-true _ _ q)) (λ q. f6 (eqb-true _ _ q)) (s .1))
-      where
-        off : (a b : Bool) → (a ≡ true → ⊥) → (b ≡ true → ⊥) → T (a || b) → ⊥
-        off true b f g h = f refl
-        off false true f g h = g refl
-        off false false f g h = h
+    made r (Does d) s = refl
+    made r (Refuses w) s = absurd (rw r at (s .1))
 
     called : May m e → Taken (callOf entry t (seenOf m t))
     unfolding callOf loadOf storeOf linkedCallOf carriedOf
-    called (go k c y f0 f6) = rw k (made f0 f6 (effectOf t (seenOf m t)) (steady m K (getD e 2 0) (f .formed .task)))
+    called (go k c y r) = rw k (made r (effectOf t (seenOf m t)) (steady m K (getD e 2 0) (f .formed .task)))
     called (load k c y f0) = rw (k, f0)
     called (store k c r) = rw (k, r) (by-test Taken (not (linkedTo t (cellNo (getD e 4 0)))) _ _ (λ q. refl) (λ q. refl))
     called (release k c y f6) = rw (k, f6)
@@ -120,20 +115,18 @@ module _ (m : Machine) (K : Kept m) (e : List ℕ) where
   no r h = absurd (false≢true h)
 
   -- no step is made by an idle or a linked task
-  not-idle : Taken (effectOf t (seenOf m t)) → t .phase ≢ 0
+  runs : Taken (effectOf t (seenOf m t)) → resting (t .phase) ≡ false
   unfolding effectOf rows carriedOf
-  not-idle h q = false≢true (rw q at h)
-
-  not-linked : Taken (effectOf t (seenOf m t)) → t .phase ≢ 6
-  unfolding effectOf rows carriedOf
-  not-linked h q = false≢true (rw q at h)
+  runs h =
+      either (λ b. (b || eqb (t .phase) 6) ≡ false) (eqb (t .phase) 0) (λ q. absurd (false≢true (rw (eqb-true (t .phase) 0 q) at h)))
+      (λ q. either (λ b. b ≡ false) (eqb (t .phase) 6) (λ w. absurd (false≢true (rw (eqb-true (t .phase) 6 w) at h))) (λ w. refl))
 
   told : kindOf e ≤ 4 → nonzero entry ≡ false → outside (m .n) entry ≡ false → Told (callOf entry t (seenOf m t))
   unfolding callOf loadOf storeOf linkedCallOf nonzero outside
   told h4 hz hn =
       by-test Told (eqb (kindOf e) 0) _ _
       (λ k h. let z = (rw (eqb-true (kindOf e) 0 k) at hz) in
-      go (eqb-true _ _ k) (cell-zero z) (value-zero z) (not-idle h) (not-linked h))
+      go (eqb-true _ _ k) (cell-zero z) (value-zero z) (runs h))
       (λ k0. by-test Told (eqb (kindOf e) 1) _ _
       (λ k. by-test Told (not (eqb (t .phase) 0)) _ _ (λ w. no NotNow)
       (λ w h. load (eqb-true (kindOf e) 1 k) (leb-false (m .n) (getD e 4 0) (rw (eqb-true (kindOf e) 1 k) at hn)) (is-zero (wordAt e 6) (neither (not (eqb (getD e 5 0) 0) || false) (not (eqb (wordAt e 6) 0)) (rw (eqb-true (kindOf e) 1 k) at hz) .1)) (is-zero (t .phase) w)))

@@ -33,7 +33,7 @@ use Rattle.laws.specs.Validate.{Validated}
 use Rattle.laws.specs.Schedules.{applied, tried, before, entry, Reached, Scheduled, over}
 use Rattle.laws.specs.Beyond.{Bare, Alike, Alike-after}
 use Rattle.laws.specs.Accepts.{Formed, Fits, StoreAnswered}
-use Rattle.laws.specs.Outcomes.{Asks, Unlinked, Outcome, Steps, lostBy}
+use Rattle.laws.specs.Outcomes.{Asks, Loses, Outcome, Steps, lostBy}
 use Rattle.laws.specs.Moves.{Moves}
 use Rattle.laws.proofs.Entries.{outcome, refused-leaves}
 use Rattle.laws.proofs.Rows.{moves}
@@ -153,8 +153,7 @@ module _ (s : List ℕ) (used : ℕ) (ok : setupOf s .answer ≡ Ready used) (es
 
   -- a store without a link on its cell is answered lost and leaves the record, a link on another cell with it: a whole call at its own entry, where
   -- figure 1 has the task outside S of the cell and gives it false, and no cell and no set changes (Stores)
-  pub store-without-link : (e : List ℕ) → Formed (applied (setupOf s .machine) es) e → kindOf e ≡ 2 → getD e 4 0 < applied (setupOf s .machine) es .n
-      → Unlinked (taskOf (applied (setupOf s .machine) es) e) (getD e 4 0)
+  pub store-without-link : (e : List ℕ) → Formed (applied (setupOf s .machine) es) e → Loses (applied (setupOf s .machine) es) e
       → (applyOf (applied (setupOf s .machine) es) e ≡ lostBy (applied (setupOf s .machine) es) e)
       × (eventsOf (applied (setupOf s .machine) es) e ≡ begins (getD e 2 0) (store (getD e 4 0) (wordAt e 6)) ∷ acts (getD e 2 0) ∷ ends (getD e 2 0) lost ∷ [])
       × (afterAll first past .cells .member (getD e 4 0) (getD e 2 0) ≡ false)

@@ -25,7 +25,7 @@ use Rattle.figure1.proofs.Put.{put-same, put-other, put-in, set-put}
 use Rattle.laws.specs.Types.{Replied, Lost, TaskNo, Task, Nothing, Point, Value, Deed, Does, Machine}
 use Rattle.laws.specs.Meaning.{points, claims}
 use Rattle.laws.specs.Kept.{Ready, InRange, Kept}
-use Rattle.laws.specs.Acts.{inSet, linkedAt, standing, Matches, actsFrom, ending, each, eventsIn, eventsOf}
+use Rattle.laws.specs.Acts.{inSet, linkedAt, standing, Matches, actsFrom, ending, each, atOnce, eventsIn, eventsOf}
 use Rattle.laws.proofs.Phases.{phase-gives}
 use Rattle.laws.proofs.Entries.{taskNo, Unlinked, idle, elsewhere, by-entry}
 use Rattle.laws.proofs.Rows.{Moves, l1, l2, l3-passed, l3-turned, l4, l5, s1, s2-swapped, s2-missed, s3-took, s3-shared, s5, s6-took, s6-busy, s7, r1, v1-good, v1-gone, moves}
@@ -43,7 +43,7 @@ pointed-away v x t h =
 
 -- the whole call of a store that is lost at its own entry
 abbrev pub whole : ℕ → ℕ → ℕ → List Event
-whole p x y = begins p (store x y) ∷ acts p ∷ ends p lost ∷ []
+whole p x y = begins p (store x y) ∷ atOnce p Lost
 
 -- which its entry's events are
 pub events-whole : (acting : ℕ → ℕ → Bool) (m m′ : Machine) (e : List ℕ) → kindOf e ≡ 2 → eventsIn acting (Replied Lost) m m′ e ≡ whole (getD e 2 0) (getD e 4 0) (wordAt e 6)

@@ -27,7 +27,7 @@ use Rattle.laws.specs.Kept.{Kept}
 use Rattle.laws.specs.Acts.{actsFrom, eventsOf}
 use Rattle.laws.specs.Accepts.{Formed, StoreAnswered, no-cell, not-now, unlinked, linked}
 use Rattle.laws.specs.Schedules.{applied}
-use Rattle.laws.proofs.Entries.{taskNo, Unlinked, idle, elsewhere, lostBy, by-store}
+use Rattle.laws.proofs.Entries.{taskNo, Unlinked, idle, elsewhere, Loses, lostBy, by-store}
 use Rattle.laws.proofs.Damage.{in-range}
 use Rattle.laws.proofs.Start.{setup-kept}
 use Rattle.laws.proofs.Reached.{schedule-keeps}
@@ -88,15 +88,15 @@ module _ (s : List ℕ) (used : ℕ) (ok : setupOf s .answer ≡ Ready used) (es
   abbrev past : List Event
   past = history pool (setupOf s .machine) es
 
-  pub store-unlinked : Formed present e → kindOf e ≡ 2 → getD e 4 0 < present .n → Unlinked (taskOf present e) (getD e 4 0)
+  pub store-unlinked : Formed present e → Loses present e
       → (applyOf present e ≡ lostBy present e)
       × (eventsOf present e ≡ whole (getD e 2 0) (getD e 4 0) (wordAt e 6))
       × (afterAll first past .cells .member (getD e 4 0) (getD e 2 0) ≡ false)
       × (given first past (getD e 2 0) (store (getD e 4 0) (wordAt e 6)) ≡ lost)
       × (afterAll first (past ++ eventsOf present e) .cells ≡ afterAll first past .cells)
-  store-unlinked f k h u =
+  store-unlinked f l =
       let K = schedule-keeps es (setupOf s .machine) (setup-kept s used ok) in
-      let leave = lost-at-once present K e f k h u in
-      let events = events-are present e leave k in
-      let out = sym (matches s used ok es .sets (getD e 4 0) (getD e 2 0) h (f .task)) ∙ no-part _ (getD e 4 0) (taskOf present e) u in
+      let leave = lost-at-once present K e f (l .kind) (l .cell) (l .link) in
+      let events = events-are present e leave (l .kind) in
+      let out = sym (matches s used ok es .sets (getD e 4 0) (getD e 2 0) (l .cell) (l .task)) ∙ no-part _ (getD e 4 0) (taskOf present e) (l .link) in
       (leave, events, out, gives-false (getD e 2 0) (getD e 4 0) (wordAt e 6) (afterAll first past .cells) out, rw (events, after-append first past) (leaves (getD e 2 0) (getD e 4 0) (wordAt e 6) (afterAll first past) out))

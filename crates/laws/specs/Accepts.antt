@@ -3,7 +3,6 @@ use Prim.Native.Nat.{ℕ, _≤_, _<_}
 use mathlib.Core.Path.{_≡_}
 use mathlib.Core.Bool.{true, false}
 use mathlib.Core.List.{List}
-use mathlib.Core.Logic.{_≢_}
 use lib.ListN.{length, getD}
 use Rattle.wire.specs.Bytes.{entryMark, marked, wordAt}
 use Rattle.tasks.specs.Phases.{resting}
@@ -12,10 +11,10 @@ use Rattle.cells.specs.Machine.{refusedBy}
 use Rattle.laws.specs.Types.{NoCell, NotNow, Store, Machine, Applied}
 use Rattle.laws.specs.Outcomes.{Unlinked, lostBy, begunBy}
 
--- what a task may be asked: a step unless it is idle or linked, a load while it is idle, a store of any cell that there is while no call runs, a
--- release and a validate while it is linked
+-- what a task may be asked: a step while a call runs, a load while it is idle, a store of any cell that there is while no call runs, a release and
+-- a validate while it is linked
 pub data May (m : Machine) (e : List ℕ) : Type 0 where
-  go : kindOf e ≡ 0 → getD e 4 0 ≡ 0 → wordAt e 6 ≡ 0 → taskOf m e .phase ≢ 0 → taskOf m e .phase ≢ 6 → May m e
+  go : kindOf e ≡ 0 → getD e 4 0 ≡ 0 → wordAt e 6 ≡ 0 → resting (taskOf m e .phase) ≡ false → May m e
   load : kindOf e ≡ 1 → getD e 4 0 < m .n → wordAt e 6 ≡ 0 → taskOf m e .phase ≡ 0 → May m e
   store : kindOf e ≡ 2 → getD e 4 0 < m .n → resting (taskOf m e .phase) ≡ true → May m e
   release : kindOf e ≡ 3 → getD e 4 0 ≡ 0 → wordAt e 6 ≡ 0 → taskOf m e .phase ≡ 6 → May m e
