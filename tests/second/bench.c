@@ -75,7 +75,7 @@ static bool total_in_range(const struct machine *m)
 }
 
 /* Looks only at places below N, P and K; the rest is never used. */
-static bool in_range(const struct machine *m)
+bool bench_in_range(const struct machine *m)
 {
     if (!total_in_range(m))
         return false;
@@ -292,10 +292,10 @@ static unsigned begin_on_link(struct task *t, enum phase first)
     return MOVED;
 }
 
-struct answer bench_apply(struct machine *m, const uint8_t *entry, size_t left)
+/* An entry for a machine that is in range, and stays so. */
+static struct answer apply_in_range(struct machine *m, const uint8_t *entry,
+                                    size_t left)
 {
-    if (!in_range(m))
-        return answer(DAMAGED, 0, 0);
     if (left < ENTRY_BYTES)
         return answer(CUT, 0, 0);
 
@@ -327,6 +327,13 @@ struct answer bench_apply(struct machine *m, const uint8_t *entry, size_t left)
     if (!is_refusal(number))
         a.met = met;
     return a;
+}
+
+struct answer bench_apply(struct machine *m, const uint8_t *entry, size_t left)
+{
+    if (!bench_in_range(m))
+        return answer(DAMAGED, 0, 0);
+    return apply_in_range(m, entry, left);
 }
 
 /* A whole schedule ------------------------------------------------------- */
@@ -363,15 +370,16 @@ static void show_free(const struct display *d, const struct machine *m, size_t i
         d->free_nodes[i] = (uint8_t)free_nodes;
 }
 
-struct report bench_run_shown(struct machine *m, const uint8_t *schedule,
-                              size_t length, uint8_t *replies, size_t room,
-                              const struct display *display)
+/* once: the entries rely on the test at the start, and make none themselves. */
+static struct report run(struct machine *m, const uint8_t *schedule,
+                         size_t length, uint8_t *replies, size_t room,
+                         const struct display *display, bool once)
 {
     struct report r = { 0 };
     /* a cut last entry needs room for its refusal too */
     size_t entries = length / ENTRY_BYTES + (length % ENTRY_BYTES != 0);
 
-    if (!in_range(m))
+    if (!bench_in_range(m))
         r.refusal = DAMAGED;
     else if (length > MAX_SCHEDULE)
         r.refusal = TOO_LONG;
@@ -382,7 +390,8 @@ struct report bench_run_shown(struct machine *m, const uint8_t *schedule,
 
     for (size_t i = 0; i < entries; i++) {
         size_t at = i * ENTRY_BYTES;
-        struct answer a = bench_apply(m, schedule + at, length - at);
+        struct answer a = once ? apply_in_range(m, schedule + at, length - at)
+                               : bench_apply(m, schedule + at, length - at);
 
         write_reply(replies + i * REPLY_BYTES, a);
         show_free(display, m, i);
@@ -393,6 +402,20 @@ struct report bench_run_shown(struct machine *m, const uint8_t *schedule,
         count_entry(&r, a, m->task[a.task].phase);
     }
     return r;
+}
+
+struct report bench_run_shown(struct machine *m, const uint8_t *schedule,
+                              size_t length, uint8_t *replies, size_t room,
+                              const struct display *display)
+{
+    return run(m, schedule, length, replies, room, display, false);
+}
+
+struct report bench_run_once(struct machine *m, const uint8_t *schedule,
+                             size_t length, uint8_t *replies, size_t room,
+                             const struct display *display)
+{
+    return run(m, schedule, length, replies, room, display, true);
 }
 
 struct report bench_run(struct machine *m, const uint8_t *schedule,

@@ -1,7 +1,8 @@
 /*
  * The step bench of document 01, changed as items 1 (validate), 2 (lowering
- * tells what it left), 3 (how many nodes are free) and 5 (a store without a
- * link) of document 02 ask, written a second time in plain C.
+ * tells what it left), 3 (how many nodes are free), 5 (a store without a link)
+ * and 14 (a run that tests the ranges once) of document 02 ask, written a
+ * second time in plain C.
  *
  * Written from the documents alone, so that a slip in the proved library and
  * a slip here are unlikely to be the same one.  No globals, no exit, nothing
@@ -128,6 +129,9 @@ static inline bool is_refusal(unsigned number)
 unsigned bench_setup(struct machine *machine, const uint8_t *input,
                      size_t length, size_t *used);
 
+/* Whether every number of the record is in the range that refusal 22 gives it. */
+bool bench_in_range(const struct machine *machine);
+
 /*
  * Applies the entry at the start of the left bytes.  A refusal leaves the
  * machine as it was.
@@ -163,10 +167,22 @@ struct display {
     size_t room; /* later answers are lost */
 };
 
-/* The same as bench_run; the display asks after every entry that was tried. */
+/*
+ * The same as bench_run; the display asks after every entry that was tried.
+ * The ranges are tested at the run's start and at each entry.
+ */
 struct report bench_run_shown(struct machine *machine, const uint8_t *schedule,
                               size_t length, uint8_t *replies, size_t room,
                               const struct display *display);
+
+/*
+ * The same, but the ranges are tested at the start only, as item 14 asks.  This
+ * one is for times.  The library is compared with the slow one above, which
+ * takes nothing on trust; check.c compares the two.
+ */
+struct report bench_run_once(struct machine *machine, const uint8_t *schedule,
+                             size_t length, uint8_t *replies, size_t room,
+                             const struct display *display);
 
 /*
  * How many of the listed tasks hold the node.  Returns 0 and the count in

@@ -3,7 +3,8 @@
  * reach: damaged machines, short reply buffers, the holders question, the
  * machine after document 01's cases, after a validate, after a store without a
  * link and after each step that changes a count, how long a store alone can take,
- * and how many nodes are free.  Prints what fails; exit status 1 then.
+ * how many nodes are free, and that a run that tests the ranges once gives what
+ * one that tests them at each entry gives.  Prints what fails; exit status 1 then.
  */
 #include "bench.h"
 #include "chance.h"
@@ -31,11 +32,20 @@ static struct machine small(void)
     return fresh(1, 2, 5);
 }
 
+static void put_entry(uint8_t *entry, uint8_t task, uint8_t kind, uint8_t cell,
+                      uint8_t value)
+{
+    const uint8_t bytes[ENTRY_BYTES] = { 0x45, 0x4E, task, kind, cell, 0, value };
+
+    memcpy(entry, bytes, sizeof bytes);
+}
+
 static struct answer apply_on(struct machine *m, uint8_t task, uint8_t kind,
                               uint8_t cell, uint8_t value)
 {
-    uint8_t entry[ENTRY_BYTES] = { 0x45, 0x4E, task, kind, cell, 0, value };
+    uint8_t entry[ENTRY_BYTES];
 
+    put_entry(entry, task, kind, cell, value);
     return bench_apply(m, entry, sizeof entry);
 }
 
@@ -461,19 +471,40 @@ static bool answered_by_sizes(void)
     return true;
 }
 
-/* An entry that the task's phase allows. */
-static void move(struct machine *m, uint8_t task, uint32_t *state)
+static uint8_t below(unsigned limit, uint32_t *state)
+{
+    return (uint8_t)(chance(state) % limit);
+}
+
+/* An entry that the task's phase allows, so that only damage can refuse it. */
+static void put_allowed(uint8_t *entry, const struct machine *m, uint8_t task,
+                        uint32_t *state)
 {
     const struct task *t = &m->task[task];
+    uint8_t of_16 = below(16, state);
+    uint8_t cell = below(m->cells, state);
+    uint8_t value = below(256, state);
 
-    if (t->phase == IDLE)
-        apply_on(m, task, LOAD, (uint8_t)(chance(state) % m->cells), 0);
+    if (t->phase == IDLE && of_16 > 0)
+        put_entry(entry, task, LOAD, cell, 0);
+    else if (t->phase == IDLE) /* without a link: lost at once */
+        put_entry(entry, task, STORE, cell, value);
     else if (t->phase != LINKED)
-        apply(m, task, GO, 0);
-    else if (chance(state) % 8 == 0)
-        apply(m, task, RELEASE, 0);
+        put_entry(entry, task, GO, 0, 0);
+    else if (of_16 < 2)
+        put_entry(entry, task, RELEASE, 0, 0);
+    else if (of_16 == 2)
+        put_entry(entry, task, VALIDATE, 0, 0);
     else
-        apply_on(m, task, STORE, t->cell, 0);
+        put_entry(entry, task, STORE, of_16 == 3 ? cell : t->cell, value);
+}
+
+static void move(struct machine *m, uint8_t task, uint32_t *state)
+{
+    uint8_t entry[ENTRY_BYTES];
+
+    put_allowed(entry, m, task, state);
+    bench_apply(m, entry, sizeof entry);
 }
 
 /* After every entry of a random schedule the total is the full count. */
@@ -485,7 +516,7 @@ static bool kept_free(uint8_t cells, uint8_t tasks, uint8_t nodes,
     unsigned counted;
 
     while (entries-- > 0) {
-        move(&m, (uint8_t)(chance(&state) % tasks), &state);
+        move(&m, below(tasks, &state), &state);
         if (bench_free_counted(&m, &counted) != 0 || !free_are(&m, counted))
             return false;
     }
@@ -523,7 +554,7 @@ static unsigned longest_alone(uint8_t cells, uint8_t tasks, unsigned entries)
     unsigned longest = 0;
 
     while (entries-- > 0) {
-        move(&m, (uint8_t)(chance(&state) % tasks), &state);
+        move(&m, below(tasks, &state), &state);
         for (uint8_t p = 0; p < tasks; p++) {
             unsigned steps = steps_alone(m, p);
 
@@ -774,7 +805,92 @@ static bool never_18(void)
     return true;
 }
 
-/* Each byte as the phase of one task; where it is none, of the other too. */
+typedef struct report runner(struct machine *machine, const uint8_t *schedule,
+                             size_t length, uint8_t *replies, size_t room,
+                             const struct display *display);
+
+enum { UNTOUCHED = 0xA5 }; /* more than can be free */
+
+/* What a run gave.  There is room for one entry more than a schedule can have. */
+struct ran {
+    struct machine machine;
+    struct report report;
+    uint8_t replies[REPLY_BYTES * (MAX_ENTRIES + 1)];
+    uint8_t free_nodes[MAX_ENTRIES + 1];
+};
+
+static void run_from(struct ran *r, runner *run, const struct machine *start,
+                     const uint8_t *schedule, size_t length)
+{
+    struct display d = { bench_free, r->free_nodes, sizeof r->free_nodes };
+
+    memset(r->replies, UNTOUCHED, sizeof r->replies);
+    memset(r->free_nodes, UNTOUCHED, sizeof r->free_nodes);
+    r->machine = *start;
+    r->report = run(&r->machine, schedule, length, r->replies,
+                    sizeof r->replies, &d);
+}
+
+static bool untouched(const uint8_t *bytes, size_t count)
+{
+    for (size_t i = 0; i < count; i++)
+        if (bytes[i] != UNTOUCHED)
+            return false;
+    return true;
+}
+
+/* Past what the entries that were tried wrote, every byte is as it was. */
+static bool left_alone(const struct ran *r, size_t tried)
+{
+    size_t used = REPLY_BYTES * tried;
+
+    return untouched(r->replies + used, sizeof r->replies - used) &&
+           untouched(r->free_nodes + tried, sizeof r->free_nodes - tried);
+}
+
+static bool same_run(const struct ran *a, const struct ran *b)
+{
+    return same(&a->machine, &b->machine) &&
+           memcmp(&a->report, &b->report, sizeof a->report) == 0 &&
+           memcmp(a->replies, b->replies, sizeof a->replies) == 0 &&
+           memcmp(a->free_nodes, b->free_nodes, sizeof a->free_nodes) == 0;
+}
+
+/*
+ * Whether a run that tests the ranges once gives what one that tests them at
+ * each entry gives; the latter's report goes to *report.  The schedule is not
+ * too long, so that only the ranges can refuse it before an entry is tried.
+ */
+static bool alike(const struct machine *start, const uint8_t *schedule,
+                  size_t length, struct report *report)
+{
+    struct ran each, once;
+    size_t tried = 0;
+
+    run_from(&each, bench_run_shown, start, schedule, length);
+    run_from(&once, bench_run_once, start, schedule, length);
+    *report = each.report;
+    if (bench_in_range(start))
+        tried = report->accepted + (report->refusal != 0);
+    return same_run(&each, &once) && left_alone(&each, tried) &&
+           (tried > 0 || same(&each.machine, start));
+}
+
+/* 22 by ranges: no entry and no run, however it tests, changes or writes a byte. */
+static void check_out_of_range(struct machine m)
+{
+    static const uint8_t load[] = { 0x45, 0x4E, 1, LOAD, 0, 0, 0, 0, 0, 0 };
+    struct report r;
+
+    CHECK(!bench_in_range(&m));
+    check_refused(m, DAMAGED, 0);
+    CHECK(alike(&m, load, sizeof load, &r));
+    CHECK(r.refusal == DAMAGED && r.accepted == 0 && r.loads == 0);
+    CHECK(alike(&m, load, 0, &r));
+    CHECK(r.refusal == DAMAGED && r.accepted == 0);
+}
+
+/* Each byte as the phase of one task; if it is none, of the other too. */
 static void check_phases(void)
 {
     CHECK(S3 == 9 && S5 == 11 && S6 == 12 && S7 == 13 && R1 == 14 && V1 == 15);
@@ -783,11 +899,13 @@ static void check_phases(void)
         struct machine m = small();
 
         m.task[0].phase = (uint8_t)i;
-        check_refused(m, exists ? BAD_GO : DAMAGED, exists ? 1 : 0);
-        if (!exists) {
+        if (exists) {
+            check_refused(m, BAD_GO, 1);
+        } else {
+            check_out_of_range(m);
             m.task[1].phase = (uint8_t)i;
             m.task[0].phase = IDLE;
-            check_refused(m, DAMAGED, 0);
+            check_out_of_range(m);
         }
     }
 }
@@ -796,20 +914,20 @@ static void check_damage_by_range(void)
 {
     struct machine m;
 
-    m = small(); m.cells = 0; check_refused(m, DAMAGED, 0);
-    m = small(); m.cells = 65; check_refused(m, DAMAGED, 0);
-    m = small(); m.tasks = 0; check_refused(m, DAMAGED, 0);
-    m = small(); m.tasks = 17; check_refused(m, DAMAGED, 0);
-    m = small(); m.nodes = 4; check_refused(m, DAMAGED, 0);
-    m = small(); m.nodes = 129; check_refused(m, DAMAGED, 0);
-    m = small(); m.node_of[0] = 5; check_refused(m, DAMAGED, 0);
-    m = small(); m.count[4] = 4; check_refused(m, DAMAGED, 0);
-    m = small(); m.task[1].cell = 1; check_refused(m, DAMAGED, 0);
-    m = small(); m.task[0].held = 5; check_refused(m, DAMAGED, 0);
-    m = small(); m.task[0].own = 5; check_refused(m, DAMAGED, 0);
-    m = small(); m.task[0].cursor = 5; check_refused(m, DAMAGED, 0);
-    m = small(); m.free = 6; check_refused(m, DAMAGED, 0);
-    m = small(); m.free = 255; check_refused(m, DAMAGED, 0);
+    m = small(); m.cells = 0; check_out_of_range(m);
+    m = small(); m.cells = 65; check_out_of_range(m);
+    m = small(); m.tasks = 0; check_out_of_range(m);
+    m = small(); m.tasks = 17; check_out_of_range(m);
+    m = small(); m.nodes = 4; check_out_of_range(m);
+    m = small(); m.nodes = 129; check_out_of_range(m);
+    m = small(); m.node_of[0] = 5; check_out_of_range(m);
+    m = small(); m.count[4] = 4; check_out_of_range(m);
+    m = small(); m.task[1].cell = 1; check_out_of_range(m);
+    m = small(); m.task[0].held = 5; check_out_of_range(m);
+    m = small(); m.task[0].own = 5; check_out_of_range(m);
+    m = small(); m.task[0].cursor = 5; check_out_of_range(m);
+    m = small(); m.free = 6; check_out_of_range(m);
+    m = small(); m.free = 255; check_out_of_range(m);
 
     /* the largest that are in range, and places nobody looks at */
     m = small();
@@ -839,8 +957,9 @@ static void check_damage_by_step(void)
     check_refused(m, DAMAGED, 1);
 }
 
-static void check_runs(void)
+static void check_run(runner *run)
 {
+    static const struct display none; /* no room: it never asks */
     uint8_t schedule[MAX_SCHEDULE + 1] = {
         0x45, 0x4E, 1, LOAD, 0, 0, 0, 0, 0, 0,
         0x45, 0x4E, 1, GO, 0, 0, 0, 0, 0, 0,
@@ -850,42 +969,40 @@ static void check_runs(void)
         0x41, 0x4E, 0, 1, 0, 0, 0, 0,
         0x41, 0x4E, 0, 1, 0, 0, 0, 0,
         0x41, 0x4E, 20, 0, 0, 0, 0, 0,
-        0xA5, 0xA5
+        UNTOUCHED, UNTOUCHED
     };
     uint8_t replies[sizeof expected];
-    uint8_t untouched[sizeof expected];
     struct machine m = small(), before = small();
     struct report r;
 
-    memset(replies, 0xA5, sizeof replies);
-    memset(untouched, 0xA5, sizeof untouched);
+    memset(replies, UNTOUCHED, sizeof replies);
 
     /* order: damage, too long, no room */
     m.task[0].own = 5;
-    r = bench_run(&m, schedule, sizeof schedule, replies, 0);
+    r = run(&m, schedule, sizeof schedule, replies, 0, &none);
     CHECK(r.refusal == DAMAGED && r.accepted == 0);
     m = before;
-    r = bench_run(&m, schedule, sizeof schedule, replies, 0);
+    r = run(&m, schedule, sizeof schedule, replies, 0, &none);
     CHECK(r.refusal == TOO_LONG && r.accepted == 0);
-    r = bench_run(&m, schedule, 22, replies, 23); /* the cut entry counts */
+    r = run(&m, schedule, 22, replies, 23, &none); /* the cut entry counts */
     CHECK(r.refusal == NO_ROOM && r.accepted == 0 && r.loads == 0);
     CHECK(same(&m, &before));
-    CHECK(memcmp(replies, untouched, sizeof replies) == 0);
+    CHECK(untouched(replies, sizeof replies));
 
-    r = bench_run(&m, schedule, 22, replies, 24);
+    r = run(&m, schedule, 22, replies, 24, &none);
     CHECK(r.refusal == CUT && r.accepted == 2 && r.loads == 1 && r.load_steps == 1);
     CHECK(memcmp(replies, expected, sizeof expected) == 0);
 
     /* damage met by a step is the last reply and carries the task byte */
     m = before;
     m.count[0] = 3;
-    memset(replies, 0xA5, sizeof replies);
+    memset(replies, UNTOUCHED, sizeof replies);
     memcpy(schedule + 20, schedule + 10, ENTRY_BYTES);
-    r = bench_run(&m, schedule, 30, replies, sizeof replies);
+    r = run(&m, schedule, 30, replies, sizeof replies, &none);
     CHECK(r.refusal == DAMAGED && r.accepted == 2 && r.load_steps == 1);
-    CHECK(replies[18] == DAMAGED && replies[19] == 1 && replies[24] == 0xA5);
+    CHECK(replies[18] == DAMAGED && replies[19] == 1 && replies[24] == UNTOUCHED);
 
-    r = bench_run(&m, schedule, 0, NULL, 0);
+    r = run(&m, schedule, 0, NULL, 0, &none);
     CHECK(r.refusal == 0 && r.accepted == 0);
 }
 
@@ -914,7 +1031,7 @@ static void check_run_unlinked(void)
 }
 
 /* S5 gives node 3 back, S6 takes node 4, a load begins, and another can't. */
-static void check_display(free_question *ask, size_t room)
+static void check_display(runner *run, free_question *ask, size_t room)
 {
     static const uint8_t schedule[] = {
         0x45, 0x4E, 1, GO, 0, 0, 0, 0, 0, 0,
@@ -929,20 +1046,20 @@ static void check_display(free_question *ask, size_t room)
     struct report r;
 
     /* no entry is tried: the display has nothing to show */
-    r = bench_run_shown(&damaged, schedule, sizeof schedule, replies, 32, &d);
+    r = run(&damaged, schedule, sizeof schedule, replies, 32, &d);
     CHECK(r.refusal == DAMAGED && r.accepted == 0);
-    r = bench_run_shown(&m, schedule, sizeof schedule, replies, 31, &d);
+    r = run(&m, schedule, sizeof schedule, replies, 31, &d);
     CHECK(r.refusal == NO_ROOM && r.accepted == 0);
     for (size_t i = 0; i < sizeof shown; i++)
         CHECK(shown[i] == 99);
 
-    r = bench_run_shown(&m, schedule, sizeof schedule, replies, 32, &d);
+    r = run(&m, schedule, sizeof schedule, replies, 32, &d);
     CHECK(r.refusal == BAD_CALL && r.accepted == 3);
     for (size_t i = 0; i < sizeof shown; i++)
         CHECK(shown[i] == (i < room && i < sizeof due ? due[i] : 99));
 
     /* refused at the first entry, which is tried all the same */
-    r = bench_run_shown(&m, schedule + 30, 10, replies, 32, &d);
+    r = run(&m, schedule + 30, 10, replies, 32, &d);
     CHECK(r.refusal == BAD_CALL && r.accepted == 0);
     CHECK(shown[0] == (room > 0 ? 1 : 99));
 }
@@ -950,28 +1067,220 @@ static void check_display(free_question *ask, size_t room)
 static void check_displays(void)
 {
     for (size_t room = 0; room <= 6; room++) {
-        check_display(bench_free, room);
-        check_display(bench_free_counted, room);
+        check_display(bench_run_shown, bench_free, room);
+        check_display(bench_run_shown, bench_free_counted, room);
+        check_display(bench_run_once, bench_free, room);
+        check_display(bench_run_once, bench_free_counted, room);
     }
 }
 
-/* The start test of a run sees the phase too, before any entry is tried. */
-static void check_run_in_phase(uint8_t phase)
+/* Tasks 0 and 3 are idle, 1 is linked to cell 0, and 2 is to lower a count of 0. */
+static struct machine facing_refusals(void)
 {
-    static const uint8_t load[] = { 0x45, 0x4E, 1, LOAD, 0, 0, 0, 0, 0, 0 };
-    uint8_t reply[REPLY_BYTES], untouched[REPLY_BYTES];
-    struct machine m = small(), before;
+    struct machine m = fresh(2, 4, 10);
+
+    call(&m, 1, LOAD, 0, 4);
+    m.task[2].phase = L5;
+    m.task[2].held = 9;
+    return m;
+}
+
+/* Each refusal that an entry can meet but 20, with entries before and behind it. */
+static void check_refused_entries(void)
+{
+    static const struct {
+        uint8_t due, entry[ENTRY_BYTES];
+    } refused[] = {
+        { BAD_MARK, { 0x44, 0x4E, 0, LOAD } },
+        { BAD_MARK, { 0x45, 0x4F, 0, LOAD } },
+        { BAD_TASK, { 0x45, 0x4E, 4, LOAD } },
+        { BAD_TASK, { 0x45, 0x4E, 255, LOAD } },
+        { BAD_KIND, { 0x45, 0x4E, 0, KINDS } },
+        { BAD_KIND, { 0x45, 0x4E, 0, 255 } },
+        { NOT_ZERO, { 0x45, 0x4E, 2, GO, 0, 0, 0, 0, 0, 1 } },
+        { NOT_ZERO, { 0x45, 0x4E, 0, LOAD, 0, 0, 1 } },
+        { NOT_ZERO, { 0x45, 0x4E, 1, STORE, 0, 1 } },
+        { NOT_ZERO, { 0x45, 0x4E, 1, RELEASE, 1 } },
+        { NOT_ZERO, { 0x45, 0x4E, 1, VALIDATE, 1 } },
+        { BAD_CELL, { 0x45, 0x4E, 0, LOAD, 2 } },
+        { BAD_CELL, { 0x45, 0x4E, 1, STORE, 255 } },
+        { BAD_CALL, { 0x45, 0x4E, 1, LOAD } },
+        { BAD_CALL, { 0x45, 0x4E, 2, STORE } },
+        { BAD_CALL, { 0x45, 0x4E, 0, RELEASE } },
+        { BAD_CALL, { 0x45, 0x4E, 2, VALIDATE } },
+        { BAD_GO, { 0x45, 0x4E, 0, GO } },
+        { BAD_GO, { 0x45, 0x4E, 1, GO } },
+        { DAMAGED, { 0x45, 0x4E, 2, GO } },
+    };
+    const struct machine m = facing_refusals();
+    uint8_t schedule[3 * ENTRY_BYTES];
     struct report r;
 
-    memset(reply, 0xA5, sizeof reply);
-    memset(untouched, 0xA5, sizeof untouched);
-    m.task[0].phase = phase;
-    before = m;
-    r = bench_run(&m, load, sizeof load, reply, sizeof reply);
-    CHECK(r.refusal == DAMAGED && r.accepted == 0 && r.loads == 0);
-    CHECK(same(&m, &before) && memcmp(reply, untouched, sizeof reply) == 0);
-    r = bench_run(&m, load, 0, NULL, 0);
-    CHECK(r.refusal == DAMAGED && r.accepted == 0);
+    put_entry(schedule, 3, LOAD, 1, 0);
+    put_entry(schedule + 2 * ENTRY_BYTES, 3, GO, 0, 0);
+    for (size_t i = 0; i < sizeof refused / sizeof refused[0]; i++) {
+        memcpy(schedule + ENTRY_BYTES, refused[i].entry, ENTRY_BYTES);
+        CHECK(alike(&m, schedule, sizeof schedule, &r));
+        CHECK(r.refusal == refused[i].due && r.accepted == 1 && r.loads == 1);
+    }
+}
+
+/* A load and three steps of it, cut at every byte. */
+static void check_cut_schedules(void)
+{
+    const struct machine m = small();
+    uint8_t schedule[4 * ENTRY_BYTES];
+    struct report r;
+
+    for (size_t i = 0; i < 4; i++)
+        put_entry(schedule + i * ENTRY_BYTES, 1, i == 0 ? LOAD : GO, 0, 0);
+    for (size_t length = 0; length <= sizeof schedule; length++) {
+        CHECK(alike(&m, schedule, length, &r));
+        CHECK(r.refusal == (length % ENTRY_BYTES == 0 ? 0 : CUT));
+        CHECK(r.accepted == length / ENTRY_BYTES);
+    }
+}
+
+/* What walks met, so that no check that rests on them is empty. */
+struct met {
+    unsigned long accepted, damaged;
+    unsigned accepted_in, damaged_in; /* a bit for each phase */
+    unsigned long left_range;         /* by an accepted entry */
+};
+
+/* Tries an entry that is allowed.  False if it is refused. */
+static bool meet(struct met *met, struct machine *m, const uint8_t *entry)
+{
+    unsigned phase = 1u << m->task[entry[2]].phase;
+    struct answer a = bench_apply(m, entry, ENTRY_BYTES);
+
+    if (is_refusal(a.number)) {
+        CHECK(a.number == DAMAGED);
+        met->damaged++;
+        met->damaged_in |= phase;
+        return false;
+    }
+    met->accepted++;
+    met->accepted_in |= phase;
+    met->left_range += !bench_in_range(m);
+    return true;
+}
+
+/*
+ * Writes a random schedule of entries that the phases allow, tried one by one.
+ * Behind one that is refused there are more, which a run must not try.
+ */
+static void walk(uint8_t *schedule, size_t entries, struct machine m,
+                 uint32_t *state, struct met *met)
+{
+    bool goes_on = true;
+
+    for (size_t i = 0; i < entries; i++, schedule += ENTRY_BYTES) {
+        put_allowed(schedule, &m, below(m.tasks, state), state);
+        goes_on = goes_on && meet(met, &m, schedule);
+    }
+}
+
+/* The longest there is, accepted whole. */
+static void check_long_schedule(uint8_t cells, uint8_t tasks, uint8_t nodes)
+{
+    struct machine m = fresh(cells, tasks, nodes);
+    uint8_t schedule[MAX_SCHEDULE];
+    uint32_t state = 1;
+    struct met met = { 0 };
+    struct report r;
+
+    walk(schedule, MAX_ENTRIES, m, &state, &met);
+    CHECK(met.left_range == 0);
+    CHECK(alike(&m, schedule, sizeof schedule, &r));
+    CHECK(r.refusal == 0 && r.accepted == MAX_ENTRIES && r.swaps > 0);
+}
+
+static void check_long_schedules(void)
+{
+    check_long_schedule(1, 1, 3);
+    check_long_schedule(1, 2, 5);
+    check_long_schedule(2, 3, 8);
+    check_long_schedule(2, 4, MAX_NODES);
+    check_long_schedule(1, MAX_TASKS, 1 + 2 * MAX_TASKS);
+    check_long_schedule(MAX_CELLS, MAX_TASKS, MAX_NODES);
+}
+
+/* Half of them so small that the tasks often meet on a cell or a node. */
+static struct machine of_any_size(uint32_t *state)
+{
+    bool few = below(2, state) == 0;
+    unsigned cells = 1 + below(few ? 3 : MAX_CELLS, state);
+    unsigned tasks = 1 + below(few ? 4 : MAX_TASKS, state);
+    unsigned least = cells + 2 * tasks;
+    unsigned more = below(few ? 3 : MAX_NODES + 1 - least, state);
+
+    return fresh((uint8_t)cells, (uint8_t)tasks, (uint8_t)(least + more));
+}
+
+static struct task any_task(const struct machine *m, uint32_t *state)
+{
+    struct task t = { 0 };
+
+    do
+        t.phase = below(PHASES, state);
+    while (!is_phase(t.phase));
+    t.cell = below(m->cells, state);
+    t.value = chance(state);
+    t.held = below(m->nodes, state);
+    t.own = below(m->nodes, state);
+    t.cursor = below(m->nodes, state);
+    return t;
+}
+
+/* Every number is in its range, and no other law is kept. */
+static struct machine any_in_range(uint32_t *state)
+{
+    struct machine m = of_any_size(state);
+
+    memset(m.node_of, 255, sizeof m.node_of); /* past N nobody looks */
+    memset(m.count, 255, sizeof m.count);
+    memset(m.task, 255, sizeof m.task);
+    m.free = below(m.nodes + 1, state);
+    for (unsigned i = 0; i < m.cells; i++)
+        m.node_of[i] = below(m.nodes, state);
+    for (unsigned i = 0; i < m.nodes; i++) {
+        m.value[i] = chance(state);
+        m.count[i] = below(m.tasks + 2, state);
+    }
+    for (unsigned p = 0; p < m.tasks; p++)
+        m.task[p] = any_task(&m, state);
+    return m;
+}
+
+/*
+ * Machines that no setup leads to.  They are in range, an accepted entry keeps
+ * them so, and a run that tests once relies on nothing else.  The steps still
+ * refuse to take a count or the total too far.
+ */
+static void check_unreached(void)
+{
+    enum { MACHINES = 4000, ENTRIES = 60 };
+    const unsigned any = ((1u << PHASES) - 1) & ~(1u << 10); /* 10 is no phase */
+    const unsigned counting = 1u << L2 | 1u << L5 | 1u << S3 | 1u << S5 | 1u << S6 |
+                              1u << S7 | 1u << R1;
+    uint8_t schedule[ENTRIES * ENTRY_BYTES];
+    uint32_t state = 1;
+    unsigned differ = 0;
+    struct met met = { 0 };
+    struct report r;
+
+    for (unsigned i = 0; i < MACHINES; i++) {
+        struct machine m = any_in_range(&state);
+        size_t cut = i % 4 == 0 ? below(ENTRY_BYTES, &state) : 0;
+
+        walk(schedule, ENTRIES, m, &state, &met);
+        differ += !alike(&m, schedule, sizeof schedule - cut, &r);
+    }
+    CHECK(met.left_range == 0);
+    CHECK(differ == 0);
+    CHECK(met.accepted > 10000 && met.accepted_in == any);
+    CHECK(met.damaged > 1000 && met.damaged_in == counting);
 }
 
 static void check_holders(void)
@@ -1030,11 +1339,14 @@ int main(void)
     check_phases();
     check_damage_by_range();
     check_damage_by_step();
-    check_runs();
+    check_run(bench_run_shown);
+    check_run(bench_run_once);
     check_run_unlinked();
     check_displays();
-    check_run_in_phase(10);
-    check_run_in_phase(16);
+    check_refused_entries();
+    check_cut_schedules();
+    check_long_schedules();
+    check_unreached();
     check_holders();
     if (failed == 0)
         printf("check: all hold\n");

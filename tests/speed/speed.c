@@ -2,9 +2,13 @@
  * speed: the proved run beside the second program's, in nanoseconds an entry,
  * and what it costs to ask after every entry how many nodes are free.
  *
- * All start from the same bytes, make the range test at every entry and
+ * All start from the same bytes, test the ranges once, at the run's start, and
  * write the same replies.  Each call sets its machine up anew; the time of the
  * same setup with an empty schedule is taken off.  Nothing passes or fails.
+ *
+ * A processor learns the branches of a schedule that is run over and over, and
+ * those of a short one sooner.  So ten short ones are taken in turn, with as many
+ * branches as one long one.
  */
 #include "../random/driver.h"
 #include "../second/bench.h"
@@ -15,7 +19,7 @@
 #include <string.h>
 
 enum {
-    TENTH = 650, /* entries, to see how the time of one grows with their number */
+    MOST_SCHEDULES = 10, /* in one sample */
     MOST_SAMPLES = 1000,
     FEWEST_SAMPLES = 20,
     SAMPLE_MILLIS = 500, /* for one way and length, once there are enough samples */
@@ -30,7 +34,7 @@ struct input {
 
 struct output {
     uint8_t replies[REPLY_BYTES * MAX_ENTRIES];
-    uint8_t free_nodes[MAX_ENTRIES]; /* zeros where nobody asks */
+    uint8_t free_nodes[MAX_ENTRIES];
     struct report report;
 };
 
@@ -78,8 +82,8 @@ static void show_second(const struct input *in, struct output *out,
 
     if (bench_setup(&m, in->bytes, in->length, &used) != 0)
         abort();
-    out->report = bench_run_shown(&m, in->bytes + used, in->length - used,
-                                  out->replies, sizeof out->replies, &d);
+    out->report = bench_run_once(&m, in->bytes + used, in->length - used,
+                                 out->replies, sizeof out->replies, &d);
 }
 
 static void run_second(const struct input *in, struct output *out)
@@ -98,6 +102,32 @@ static void count_second(const struct input *in, struct output *out)
     show_second(in, out, (struct display){ bench_free_counted, out->free_nodes,
                                            sizeof out->free_nodes });
 }
+
+/*
+ * The ways to do the work, in the order in which they are sampled.  Others stand
+ * between a run and the same run again, which would find its branches learnt.
+ */
+enum {
+    PROVED, SECOND,
+    TABLE_WAYS,
+    PROVED_ASKED = TABLE_WAYS, SECOND_ASKED,
+    PROVED_AGAIN, SECOND_AGAIN,
+    SECOND_COUNTED,
+    WAYS
+};
+
+static const struct {
+    runner *run;
+    bool asks;
+} WAY[WAYS] = {
+    [PROVED] = { run_proved, false },
+    [PROVED_AGAIN] = { run_proved, false },
+    [PROVED_ASKED] = { ask_proved, true },
+    [SECOND] = { run_second, false },
+    [SECOND_AGAIN] = { run_second, false },
+    [SECOND_ASKED] = { ask_second, true },
+    [SECOND_COUNTED] = { count_second, true },
+};
 
 /* Schedules that are accepted whole -------------------------------------- */
 
@@ -127,10 +157,11 @@ static void put_entry(uint8_t *entry, const struct machine *m, uint32_t *state)
     }
 }
 
-static void make_input(struct input *in, struct sizes s, size_t entries)
+static void make_input(struct input *in, struct sizes s, size_t entries,
+                       uint32_t seed)
 {
     struct machine m;
-    uint32_t state = 1;
+    uint32_t state = seed;
     size_t at;
 
     memset(in, 0, sizeof *in);
@@ -146,112 +177,192 @@ static void make_input(struct input *in, struct sizes s, size_t entries)
     in->entries = entries;
 }
 
-/* Time ------------------------------------------------------------------- */
+/* Lengths of a schedule; with no entries there is the setup alone. */
+enum { LONG, SHORT, NONE, LENGTHS };
 
-/* Nanoseconds of one call, as so many in a row that the clock can tell. */
-static double sample(runner *run, const struct input *in, struct output *out)
-{
-    size_t calls = 1 + MAX_ENTRIES / (in->entries + 7);
-    double began = seconds();
-
-    for (size_t i = 0; i < calls; i++)
-        run(in, out);
-    return (seconds() - began) * 1e9 / (double)calls;
-}
-
-/* One way of doing the work: its best time, and what it gave. */
-struct way {
-    runner *run;
-    double best;
-    struct output out;
+static const struct {
+    const char *name;
+    size_t entries, schedules;
+} LENGTH[LENGTHS] = {
+    [LONG] = { "6,553", MAX_ENTRIES, 1 },
+    [SHORT] = { "650", 650, MOST_SCHEDULES },
+    [NONE] = { "none", 0, 1 },
 };
 
-static void check_work(const struct way *a, const struct way *b,
-                       const struct input *in, bool asked)
-{
-    const struct output *x = &a->out, *y = &b->out;
+/* Schedules of one length for one setup, and the best time of each way. */
+struct work {
+    size_t entries, schedules;
+    struct input inputs[MOST_SCHEDULES];
+    double best[WAYS]; /* nanoseconds of one schedule, its setup included */
+};
 
-    if (memcmp(x->replies, y->replies, sizeof x->replies) == 0 &&
-        memcmp(&x->report, &y->report, sizeof x->report) == 0 &&
-        (!asked || memcmp(x->free_nodes, y->free_nodes, in->entries) == 0) &&
-        x->report.accepted == in->entries)
-        return;
-    fprintf(stderr, "speed: two ways did not do the same work\n");
-    exit(2);
+static void make_work(struct work *work, struct sizes s, int length)
+{
+    work->entries = LENGTH[length].entries;
+    work->schedules = LENGTH[length].schedules;
+    for (size_t i = 0; i < work->schedules; i++)
+        make_input(&work->inputs[i], s, work->entries, (uint32_t)i + 1);
 }
 
-/* The best of each; taken in turn, so that what disturbs one disturbs all. */
-static void take_samples(struct way *ways, size_t count, const struct input *in)
+/* Whether all ways do the same ------------------------------------------- */
+
+static bool same_work(const struct output *a, const struct output *b,
+                      size_t entries, bool asked)
 {
-    double until = seconds() + (double)count * SAMPLE_MILLIS / 1000;
+    return a->report.accepted == entries &&
+           memcmp(&a->report, &b->report, sizeof a->report) == 0 &&
+           memcmp(a->replies, b->replies, REPLY_BYTES * entries) == 0 &&
+           (!asked || memcmp(a->free_nodes, b->free_nodes, entries) == 0);
+}
 
-    for (int i = 0; i < FEWEST_SAMPLES || (i < MOST_SAMPLES && seconds() < until); i++) {
-        for (size_t w = 0; w < count; w++) {
-            double took = sample(ways[w].run, in, &ways[w].out);
+static void check_input(const struct input *in, size_t ways)
+{
+    static struct output due, got;
 
-            if (i == 0 || took < ways[w].best)
-                ways[w].best = took;
+    count_second(in, &due);
+    for (size_t way = 0; way < ways; way++) {
+        memset(&got, 0, sizeof got);
+        WAY[way].run(in, &got);
+        if (!same_work(&got, &due, in->entries, WAY[way].asks)) {
+            fprintf(stderr, "speed: two ways did not do the same work\n");
+            exit(2);
         }
     }
 }
 
+/* Time ------------------------------------------------------------------- */
+
+/* Nanoseconds of one schedule: all in turn, so often that the clock can tell. */
+static double sample(runner *run, const struct work *work)
+{
+    static struct output out;
+    size_t about = work->schedules * (work->entries + 7); /* a setup is some seven */
+    size_t passes = 1 + MAX_ENTRIES / about;
+    double began = seconds();
+
+    for (size_t i = 0; i < passes; i++)
+        for (size_t j = 0; j < work->schedules; j++)
+            run(&work->inputs[j], &out);
+    return (seconds() - began) * 1e9 / (double)(passes * work->schedules);
+}
+
+/*
+ * The best of each.  Taken in turn, so that what disturbs one disturbs all, and
+ * so that the others come between a schedule and itself.
+ */
+static void take_samples(struct work *works, size_t count, size_t ways)
+{
+    double until = seconds() + (double)(count * ways) * SAMPLE_MILLIS / 1000;
+
+    for (int i = 0; i < FEWEST_SAMPLES || (i < MOST_SAMPLES && seconds() < until); i++) {
+        for (size_t j = 0; j < count * ways; j++) {
+            struct work *work = &works[j / ways];
+            size_t way = j % ways;
+            double took = sample(WAY[way].run, work);
+
+            if (i == 0 || took < work->best[way])
+                work->best[way] = took;
+        }
+    }
+}
+
+static void time_works(struct work *works, size_t count, size_t ways)
+{
+    for (size_t i = 0; i < count; i++)
+        for (size_t j = 0; j < works[i].schedules; j++)
+            check_input(&works[i].inputs[j], ways);
+    take_samples(works, count, ways);
+}
+
+/* Nanoseconds an entry. */
+static double each(const struct work *work, const struct work *setup, size_t way)
+{
+    return (work->best[way] - setup->best[way]) / (double)work->entries;
+}
+
 /* The run alone ---------------------------------------------------------- */
 
-struct times {
-    double proved, second;
+enum { SETUPS = 3 };
+
+struct measured {
+    char name[sizeof "255/255/255"]; /* cells/tasks/nodes */
+    double ns[LENGTHS][TABLE_WAYS];  /* of an entry; of the setup, if there are none */
 };
 
-static struct times best_of(const struct input *in)
+static void print_times(const struct measured *m, int length)
 {
-    static struct way ways[] = { { .run = run_proved }, { .run = run_second } };
+    const double *ns = m->ns[length];
 
-    take_samples(ways, 2, in);
-    check_work(&ways[0], &ways[1], in, false);
-    return (struct times){ ways[0].best, ways[1].best };
+    printf("  %-12s %9s %9.1f %9.1f %9.2f\n", m->name, LENGTH[length].name,
+           ns[PROVED], ns[SECOND], ns[PROVED] / ns[SECOND]);
 }
 
-static struct times each(struct times whole, struct times setup, size_t entries)
+static void print_growth(const struct measured *m)
 {
-    whole.proved = (whole.proved - setup.proved) / (double)entries;
-    whole.second = (whole.second - setup.second) / (double)entries;
-    return whole;
+    const double *from = m->ns[SHORT], *to = m->ns[LONG];
+
+    printf("  %-12s %9s %9.2f %9.2f\n", m->name, "", to[PROVED] / from[PROVED],
+           to[SECOND] / from[SECOND]);
 }
 
-static void print_times(const char *what, struct times t)
+/* The largest of the setups' times over the smallest. */
+static void print_spread(const struct measured m[SETUPS], int length)
 {
-    printf("  %-28s %9.1f %9.1f %9.2f\n", what, t.proved, t.second,
-           t.proved / t.second);
+    double least = m[0].ns[length][PROVED], most = least;
+
+    for (int i = 1; i < SETUPS; i++) {
+        double ns = m[i].ns[length][PROVED];
+
+        least = ns < least ? ns : least;
+        most = ns > most ? ns : most;
+    }
+    printf("  %-12s %9s %9.2f\n", "", LENGTH[length].name, most / least);
 }
 
-static void measure(struct sizes s)
+static void print_table(const struct measured m[SETUPS])
 {
-    static struct input in;
-    struct times setup, tenth, whole;
-
-    make_input(&in, s, 0);
-    setup = best_of(&in);
-    make_input(&in, s, TENTH);
-    tenth = each(best_of(&in), setup, TENTH);
-    make_input(&in, s, MAX_ENTRIES);
-    whole = each(best_of(&in), setup, MAX_ENTRIES);
-
-    printf("%u cells, %u tasks, %u nodes\n", s.cells, s.tasks, s.nodes);
-    printf("  %-28s %9s %9s %9s\n", "", "proved", "second", "ratio");
-    print_times("setup alone, ns", setup);
-    print_times("650 entries, ns an entry", tenth);
-    print_times("6,553 entries, ns an entry", whole);
-    printf("  %-28s %9.2f %9.2f\n", "growth from 650 to 6,553",
-           whole.proved / tenth.proved, whole.second / tenth.second);
+    printf("a run, ns an entry\n");
+    printf("  %-12s %9s %9s %9s %9s\n", "setup", "entries", "proved", "C", "ratio");
+    for (int i = 0; i < SETUPS; i++) {
+        print_times(&m[i], LONG);
+        print_times(&m[i], SHORT);
+    }
+    printf("growth from 650 to 6,553 entries\n");
+    for (int i = 0; i < SETUPS; i++)
+        print_growth(&m[i]);
+    printf("the slowest of the three setups as a multiple of the quickest\n");
+    print_spread(m, LONG);
+    print_spread(m, SHORT);
+    printf("the setup alone, ns\n");
+    for (int i = 0; i < SETUPS; i++)
+        print_times(&m[i], NONE);
     fflush(stdout);
 }
 
-/* The question ----------------------------------------------------------- */
+static void take_times(struct measured *m, struct sizes s, const struct work *works)
+{
+    snprintf(m->name, sizeof m->name, "%u/%u/%u", s.cells, s.tasks, s.nodes);
+    for (size_t way = 0; way < TABLE_WAYS; way++) {
+        m->ns[NONE][way] = works[NONE].best[way];
+        m->ns[SHORT][way] = each(&works[SHORT], &works[NONE], way);
+        m->ns[LONG][way] = each(&works[LONG], &works[NONE], way);
+    }
+}
 
-enum {
-    PROVED, PROVED_AGAIN, PROVED_ASKED,
-    SECOND, SECOND_AGAIN, SECOND_ASKED, SECOND_COUNTED,
-    WAYS
-};
+static void measure(const struct sizes setups[SETUPS])
+{
+    static struct work works[SETUPS * LENGTHS];
+    struct measured m[SETUPS];
+
+    for (int i = 0; i < SETUPS * LENGTHS; i++)
+        make_work(&works[i], setups[i / LENGTHS], i % LENGTHS);
+    time_works(works, SETUPS * LENGTHS, TABLE_WAYS);
+    for (int i = 0; i < SETUPS; i++)
+        take_times(&m[i], setups[i], works + i * LENGTHS);
+    print_table(m);
+}
+
+/* The question ----------------------------------------------------------- */
 
 /* Nanoseconds to count the free nodes below K once, with nothing around it. */
 static double count_alone(const struct input *in)
@@ -281,32 +392,6 @@ static double count_alone(const struct input *in)
     return best;
 }
 
-/* Nanoseconds an entry of each way. */
-static void time_ways(double each[WAYS], struct input *in, struct sizes s)
-{
-    static struct way ways[WAYS] = {
-        [PROVED] = { .run = run_proved }, [PROVED_AGAIN] = { .run = run_proved },
-        [PROVED_ASKED] = { .run = ask_proved },
-        [SECOND] = { .run = run_second }, [SECOND_AGAIN] = { .run = run_second },
-        [SECOND_ASKED] = { .run = ask_second },
-        [SECOND_COUNTED] = { .run = count_second },
-    };
-    double setup[WAYS];
-
-    make_input(in, s, 0);
-    take_samples(ways, WAYS, in);
-    for (size_t w = 0; w < WAYS; w++)
-        setup[w] = ways[w].best;
-    make_input(in, s, MAX_ENTRIES);
-    take_samples(ways, WAYS, in);
-    for (size_t w = 0; w < WAYS; w++) {
-        each[w] = (ways[w].best - setup[w]) / MAX_ENTRIES;
-        check_work(&ways[w], &ways[SECOND], in, false);
-    }
-    check_work(&ways[PROVED_ASKED], &ways[SECOND_COUNTED], in, true);
-    check_work(&ways[SECOND_ASKED], &ways[SECOND_COUNTED], in, true);
-}
-
 static void print_question(const char *what, double without, double with)
 {
     printf("  %-44s %9.1f %9.1f %9.1f\n", what, without, with, with - without);
@@ -314,36 +399,40 @@ static void print_question(const char *what, double without, double with)
 
 static void measure_question(struct sizes s)
 {
-    static struct input in;
-    double each[WAYS];
+    static struct work works[2]; /* the entries, and the setup alone */
+    double ns[WAYS];
 
-    time_ways(each, &in, s);
+    make_work(&works[0], s, LONG);
+    make_work(&works[1], s, NONE);
+    time_works(works, 2, WAYS);
+    for (size_t way = 0; way < WAYS; way++)
+        ns[way] = each(&works[0], &works[1], way);
+
     printf("free nodes asked for after each of 6,553 entries, ns an entry: "
-           "%u cells, %u tasks, %u nodes\n", s.cells, s.tasks, s.nodes);
+           "setup %u/%u/%u\n", s.cells, s.tasks, s.nodes);
     printf("  %-44s %9s %9s %9s\n", "", "not asked", "asked", "more");
-    print_question("proved, from the kept total", each[PROVED],
-                   each[PROVED_ASKED]);
-    print_question("second, from the kept total", each[SECOND],
-                   each[SECOND_ASKED]);
-    print_question("second, counting the nodes below K", each[SECOND],
-                   each[SECOND_COUNTED]);
+    print_question("proved, from the kept total", ns[PROVED], ns[PROVED_ASKED]);
+    print_question("second, from the kept total", ns[SECOND], ns[SECOND_ASKED]);
+    print_question("second, counting the nodes below K", ns[SECOND],
+                   ns[SECOND_COUNTED]);
     printf("  %-44s %9s %9s %9.1f\n", "counting them alone, no run around it",
-           "", "", count_alone(&in));
-    print_question("noise: proved, asked neither time", each[PROVED],
-                   each[PROVED_AGAIN]);
-    print_question("noise: second, asked neither time", each[SECOND],
-                   each[SECOND_AGAIN]);
+           "", "", count_alone(&works[1].inputs[0]));
+    print_question("noise: proved, asked neither time", ns[PROVED],
+                   ns[PROVED_AGAIN]);
+    print_question("noise: second, asked neither time", ns[SECOND],
+                   ns[SECOND_AGAIN]);
     fflush(stdout);
 }
 
 int main(void)
 {
-    const struct sizes large = { MAX_CELLS, MAX_TASKS, MAX_NODES };
-    const struct sizes small = { 1, 4, 9 }; /* four tasks, one cell, the least pool */
+    static const struct sizes setups[SETUPS] = {
+        { MAX_CELLS, MAX_TASKS, MAX_NODES },
+        { 2, 3, 8 }, { 1, 2, 5 }, /* the least pools */
+    };
 
-    measure(large);
-    measure(small);
-    measure_question(large);
-    measure_question(small);
+    measure(setups);
+    measure_question(setups[0]);
+    measure_question(setups[SETUPS - 1]);
     return 0;
 }

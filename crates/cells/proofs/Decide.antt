@@ -25,7 +25,7 @@ abbrev pub decidedOn : Machine → Task → Bool → List ℕ → Decision
 decidedOn m t inside s = decidedOf (m .n) (m .p) (m .k) (m .free) (m .cells) (m .values) (m .counts) t inside s
 
 -- past the table's end no entry is accepted, so the record that was looked at doesn't matter
-order-same : (m : Machine) (e : Entry) (t : Task) → m .p ≤ 16 → t ≡ getD (m .tasks) (min (e .task .0) 15) noTask
+pub order-same : (m : Machine) (e : Entry) (t : Task) → m .p ≤ 16 → t ≡ getD (m .tasks) (min (e .task .0) 15) noTask
     → orderOf (m .n) (m .p) e t (seenOf m t) ≡ orderOf (m .n) (m .p) e (taskIn (m .tasks) (e .task)) (seenOf m (taskIn (m .tasks) (e .task)))
 unfolding orderOf
 order-same m e t few is =
@@ -45,7 +45,7 @@ judged-same m t false true e few is = refl
 judged-same m t false false e few is = ap (λ (x : Effect). record { task = e .task .0; effect = x }) (order-same m e t few is)
 
 -- an accepted entry is whole, and its task is below P
-order-does : (n p : ℕ) (e : Entry) (t : Task) (o : Seen) (x : Deed) → orderOf n p e t o ≡ Does x → e .task .0 < p
+pub order-does : (n p : ℕ) (e : Entry) (t : Task) (o : Seen) (x : Deed) → orderOf n p e t o ≡ Does x → e .task .0 < p
 unfolding orderOf
 order-does n p e t o x h = leb-false p (e .task .0) (below (leb p (e .task .0)) _ h)
   where
@@ -62,7 +62,7 @@ judged-does n p at sees false true e x h = let z : _≡_ {A = ℕ} 0 1 = cc in a
 judged-does n p at sees false false e x h = (refl, order-does n p e (at (e .task)) (sees (at (e .task))) x h)
 
 -- the tables in range have at most 16 tasks
-few-tasks : (m : Machine) → tablesOk (m .n) (m .p) (m .k) (m .free) (m .cells) (m .counts) ≡ true → m .p ≤ 16
+pub few-tasks : (m : Machine) → tablesOk (m .n) (m .p) (m .k) (m .free) (m .cells) (m .counts) ≡ true → m .p ≤ 16
 few-tasks m h =
     let a = both (poolOk (m .n) (m .p) (m .k) (m .free) && every (cellOk (m .cells) (m .k)) (m .n)) (every (countOk (m .counts) (m .p)) (m .k)) h in
     let b = both (poolOk (m .n) (m .p) (m .k) (m .free)) (every (cellOk (m .cells) (m .k)) (m .n)) (a .0) in

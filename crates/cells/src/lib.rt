@@ -183,7 +183,7 @@ pub struct Decision {
 }
 
 // What a step of the task record t may look at, in a machine of p tasks and k nodes, of which so many are free.
-fn seen<'a>(
+pub fn seen<'a>(
     cells: &'a [u8],
     values: &'a [u32],
     counts: &'a [u8],
@@ -210,7 +210,7 @@ fn seen<'a>(
 }
 
 // The range test (22) of all but the task records.
-fn tables_ok<'a>(n: u8, p: u8, k: u8, free: u8, cells: &'a [u8], counts: &'a [u8]) -> bool
+pub fn tables_ok<'a>(n: u8, p: u8, k: u8, free: u8, cells: &'a [u8], counts: &'a [u8]) -> bool
     ensures { λ r. ⌜ r ≡ tablesOk n p k free (now (cells .entry)) (now (counts .entry)) ⌝ }
 {
     if !free::pool_ok(n, p, k, free) {

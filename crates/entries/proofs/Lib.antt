@@ -1,2 +1,3 @@
 pub mod Laws
+pub mod Asking
 pub mod Unique

@@ -2,3 +2,4 @@ pub mod Types
 pub mod Entry
 pub mod Schedule
 pub mod Order
+pub mod Asking

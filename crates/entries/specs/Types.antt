@@ -1,4 +1,5 @@
 -- The types of an entry under one name: those declared here, a task's record, its calls, effects and answers.
+pub use Rattle.tasks.specs.declared.TaskNo.{TaskNo}
 pub use Rattle.tasks.specs.declared.CellNo.{CellNo}
 pub use Rattle.tasks.specs.declared.Task.{Task}
 pub use Rattle.tasks.specs.declared.Call.{Call}
@@ -12,3 +13,5 @@ pub use Rattle.steps.specs.declared.Effect.the-variants.{Refuses}
 pub use Rattle.entries.specs.declared.Entry.{Entry}
 pub use Rattle.entries.specs.declared.EntryRead.{EntryRead}
 pub use Rattle.entries.specs.declared.EntryRead.the-variants.{Whole, Refused}
+pub use Rattle.entries.specs.declared.Asked.{Asked}
+pub use Rattle.entries.specs.declared.Asked.the-variants.{ToGo, ToLoad, ToStore, ToRelease, ToValidate, Faulty}

@@ -11,9 +11,10 @@ use tasks::Task;
 use tasks::TaskNo;
 ghost use mathlib.Core.Path.{_≡_};
 ghost use Rattle.wire.specs.Bytes.{fitted};
-ghost use Rattle.entries.specs.Entry.{entryOf, entryBytes, nonzero, outside};
+ghost use Rattle.entries.specs.Entry.{entryOf, entryBytes};
 ghost use Rattle.tasks.specs.Phases.{resting};
-ghost use Rattle.entries.specs.Order.{begins, loadOf, linkedTo, storeOf, linkedCallOf, callOf, orderOf};
+ghost use Rattle.entries.specs.Order.{begins, loadOf, linkedTo, storeOf, linkedCallOf, orderOf};
+ghost use Rattle.entries.specs.Asking.{entryBy, plainOf, askedOf};
 
 pub struct Entry {
     pub task: TaskNo,
@@ -63,38 +64,65 @@ pub fn put_entry(out: &mut [u8], at: usize, e: Entry)
     wire::put_word(out, at + 6, e.value);
 }
 
-// Whether a byte that must be zero isn't (15).
-fn nonzero(e: Entry) -> bool
-    ensures { λ r. ⌜ r ≡ nonzero e ⌝ }
+// What an entry asks of its task, or the first refusal that its own numbers give.
+pub enum Asked {
+    ToGo,
+    ToLoad(CellNo),
+    ToStore(CellNo, u32),
+    ToRelease,
+    ToValidate,
+    Faulty(Refusal),
+}
+
+// The kinds that name no cell.
+fn plain(kind: u8) -> Asked
+    ensures { λ r. ⌜ r ≡ plainOf kind ⌝ }
 {
-    let kind = e.kind;
-    let cell = e.cell.0;
-    let value = e.value;
-    if e.spare != 0 {
-        return true;
-    }
     match kind {
-        1 => value != 0,
-        2 => false,
-        _ => {
-            if cell != 0 {
-                return true;
-            }
-            value != 0
-        }
+        0 => Asked::ToGo,
+        3 => Asked::ToRelease,
+        _ => Asked::ToValidate,
     }
 }
 
-// Whether a cell is named that n cells don't have (14).
-fn outside(n: u8, e: Entry) -> bool
-    ensures { λ r. ⌜ r ≡ outside n e ⌝ }
+// Refusals 12, 13, 15 and 14, for n cells and p tasks. The entry comes in its parts, and each kind has its own tests: so a run is quicker.
+pub fn asks(n: u8, p: u8, q: TaskNo, kind: u8, x: CellNo, spare: u8, y: u32) -> Asked
+    ensures { λ r. ⌜ r ≡ askedOf n p (entryBy q kind x spare y) ⌝ }
 {
-    let kind = e.kind;
-    let cell = e.cell.0;
+    if p <= q.0 {
+        return Asked::Faulty(Refusal::NoTask);
+    }
+    if 4 < kind {
+        return Asked::Faulty(Refusal::NoKind);
+    }
+    if spare != 0 {
+        return Asked::Faulty(Refusal::NotZero);
+    }
     match kind {
-        1 => n <= cell,
-        2 => n <= cell,
-        _ => false,
+        1 => {
+            if y != 0 {
+                return Asked::Faulty(Refusal::NotZero);
+            }
+            if n <= x.0 {
+                return Asked::Faulty(Refusal::NoCell);
+            }
+            Asked::ToLoad(x)
+        }
+        2 => {
+            if n <= x.0 {
+                return Asked::Faulty(Refusal::NoCell);
+            }
+            Asked::ToStore(x, y)
+        }
+        _ => {
+            if x.0 != 0 {
+                return Asked::Faulty(Refusal::NotZero);
+            }
+            if y != 0 {
+                return Asked::Faulty(Refusal::NotZero);
+            }
+            plain(kind)
+        }
     }
 }
 
@@ -110,7 +138,8 @@ fn begin_call(t: Task, c: Call) -> Effect
     })
 }
 
-fn load(t: Task, x: CellNo) -> Effect
+// Only an idle task may begin to load.
+pub fn load(t: Task, x: CellNo) -> Effect
     ensures { λ r. ⌜ r ≡ loadOf t x ⌝ }
 {
     if t.phase != 0 {
@@ -139,7 +168,7 @@ fn linked_to(t: Task, x: CellNo) -> bool
 }
 
 // Without a link on its cell a store is figure 1's false, at once: the task's record is handed back as it is.
-fn store(t: Task, x: CellNo, y: u32) -> Effect
+pub fn store(t: Task, x: CellNo, y: u32) -> Effect
     ensures { λ r. ⌜ r ≡ storeOf t x y ⌝ }
 {
     if !resting(t.phase) {
@@ -156,7 +185,7 @@ fn store(t: Task, x: CellNo, y: u32) -> Effect
 }
 
 // A release or a validate: a call on the cell that the task is linked to.
-fn linked_call(t: Task, c: Call) -> Effect
+pub fn linked_call(t: Task, c: Call) -> Effect
     ensures { λ r. ⌜ r ≡ linkedCallOf t c ⌝ }
 {
     if t.phase != 6 {
@@ -165,36 +194,18 @@ fn linked_call(t: Task, c: Call) -> Effect
     begin_call(t, c)
 }
 
-// What the kind asks of the task; go is 0.
-fn call(e: Entry, t: Task, s: Seen) -> Effect
-    ensures { λ r. ⌜ r ≡ callOf e t s ⌝ }
-{
-    let kind = e.kind;
-    match kind {
-        0 => steps::step(t, s),
-        1 => load(t, e.cell),
-        2 => store(t, e.cell, e.value),
-        3 => linked_call(t, Call::Release),
-        _ => linked_call(t, Call::Validate),
-    }
-}
-
 // What an entry does to its task t in a machine of n cells and p tasks, or its first refusal after 20 and 19.
 pub fn order(n: u8, p: u8, e: Entry, t: Task, s: Seen) -> Effect
     ensures { λ r. ⌜ r ≡ orderOf n p e t s ⌝ }
 {
-    let kind = e.kind;
-    if p <= e.task.0 {
-        return Effect::Refuses(Refusal::NoTask);
+    let q = e.task;
+    let x = e.cell;
+    match asks(n, p, q, e.kind, x, e.spare, e.value) {
+        Asked::Faulty(r) => Effect::Refuses(r),
+        Asked::ToGo => steps::step(t, s),
+        Asked::ToLoad(x) => load(t, x),
+        Asked::ToStore(x, y) => store(t, x, y),
+        Asked::ToRelease => linked_call(t, Call::Release),
+        Asked::ToValidate => linked_call(t, Call::Validate),
     }
-    if 4 < kind {
-        return Effect::Refuses(Refusal::NoKind);
-    }
-    if nonzero(e) {
-        return Effect::Refuses(Refusal::NotZero);
-    }
-    if outside(n, e) {
-        return Effect::Refuses(Refusal::NoCell);
-    }
-    call(e, t, s)
 }

@@ -1,23 +1,18 @@
 -- A run that has taken i entries takes one more, stops or ends. Assumes nothing.
-use Prim.Native.Nat.{ℕ, _+_, _-_, _*_, _≤_, _<_, min}
+use Prim.Native.Nat.{ℕ, _+_, _-_, _*_, _≤_, _<_}
 use mathlib.Core.Path.{_≡_, refl, sym, ap, _∙_}
 use mathlib.Core.Bool.{Bool, true, false}
 use mathlib.Core.List.{List, [], _∷_}
-use native.Mathlib.Decide.{decLe}
 use native.Mathlib.Omega.{arith}
-use lib.ListN.{length, take, drop, set, length-drop, length-set}
-use lib.Seq.{take-all}
+use lib.ListN.{length, take, drop, set, length-set}
 use Rattle.answers.specs.Numbers.{refusalNumber, numberOf}
 use Rattle.wire.specs.Bytes.{overlaid}
-use Rattle.cells.specs.Machine.{written, refusedBy}
 use Rattle.cells.specs.Apply.{applyOf}
-use Rattle.cells.proofs.Decide.{decidedOn, Known, applied-refuses, applied-does}
-use Rattle.runs.specs.Types.{Machine, Report, Applied, Task, Refusal, Deed, Does, Refuses, Decision}
+use Rattle.runs.specs.Types.{Machine, Report}
 use Rattle.runs.specs.Counts.{accepted, kindOf, taskOf}
 use Rattle.entries.specs.Schedule.{entriesIn, cut, entriesOf}
 use Rattle.runs.specs.Run.{counted, reportOf, refusedAt, ranFrom, replyBytes, repliesFrom, freeNow, notesFrom, notedBy}
-use Rattle.runs.specs.OneEntry.{Few, toldOf, decisionBytes}
-use Rattle.runs.proofs.Decision.{decision-bytes, decision-accepted, decision-counted}
+use Rattle.runs.specs.OneEntry.{Few}
 use Rattle.runs.proofs.Laws.{counted-by, few-more, cut-next, cut-none, ran-on, ran-stops, ran-ends, replies-on, replies-stop, replies-end}
 use Rattle.wire.proofs.Laws.{over-none, over-more, over-length}
 use Rattle.runs.proofs.Notes.{notedAt, noted-front, noted-on, noted-stops, noted-ends}
@@ -31,16 +26,6 @@ pub record Going (s o₀ f₀ : List ℕ) (m₀ : Machine) (o f : List ℕ) (m :
   pub ran : ranFrom m r (cut (entriesIn s - i) (drop (10 * i) s)) ≡ ranFrom m₀ (reportOf 0) (entriesOf s)
   pub replies : overlaid o (8 * i) (repliesFrom m (cut (entriesIn s - i) (drop (10 * i) s))) ≡ overlaid o₀ 0 (repliesFrom m₀ (entriesOf s))
   pub noted : notedAt f i (notesFrom m (cut (entriesIn s - i) (drop (10 * i) s))) ≡ notedBy (notesFrom m₀ (entriesOf s)) f₀
-
--- the part of the bytes that a run hands on is the next entry
-pub piece : (s : List ℕ) (at : ℕ) → at ≤ length s → take (min (at + 10) (length s) - at) (drop at s) ≡ take 10 (drop at s)
-piece s at h =
-    elim (decLe (at + 10) (length s)) [
-      | yes l ↦ (let e : min (at + 10) (length s) - at ≡ 10 = omega arith in rw e)
-      | no l ↦ (let e : min (at + 10) (length s) - at ≡ length s - at = omega arith in
-          let d = length-drop at s in
-          rw e (take-all (length s - at) (drop at s) (omega arith) ∙ sym (take-all 10 (drop at s) (omega arith))))
-    ]
 
 module _ (s o₀ f₀ : List ℕ) (m₀ : Machine) where
   pub starts : Going s o₀ f₀ m₀ o₀ f₀ m₀ (reportOf 0) 0
@@ -93,26 +78,3 @@ module _ (s o₀ f₀ : List ℕ) (m₀ : Machine) where
                 ∙ over-more o (8 * i) (replyBytes (applyOf m e)) _ fits ∙ ap (overlaid o (8 * i)) (sym (replies-on m r e _ h)) ∙ (rw next at (g .replies));
             noted = sym (noted-on f i m e _ h) ∙ (rw next at (g .noted));
           }
-
-      -- the same of an entry that was decided, for the part x of the bytes that is the next entry
-      module _ (x : List ℕ) (q : x ≡ e) (t : Task) (inside : Bool) (known : Known m x t inside) (d : Decision) (is : d ≡ decidedOn m t inside x) (o′ : List ℕ) (r′ : Report) (kind : ℕ) (kinds : kind ≡ kindOf x) (tells : r′ ≡ toldOf r kind (t .phase) (d .effect)) (wrote : o′ ≡ overlaid o (8 * i) (decisionBytes d)) where
-        told : r′ ≡ toldOf r (kindOf x) (t .phase) (d .effect)
-        told = tells ∙ ap (λ (k : ℕ). toldOf r k (t .phase) (d .effect)) kinds
-
-        wrote-e : o′ ≡ overlaid o (8 * i) (replyBytes (applyOf m e))
-        wrote-e = wrote ∙ ap (overlaid o (8 * i)) (sym (decision-bytes m x t inside known d is) ∙ ap (λ (z : List ℕ). replyBytes (applyOf m z)) q)
-
-        pub decision-stops : (y : Refusal) → d .effect ≡ Refuses y → (f′ : List ℕ) → f′ ≡ set f i (freeNow m) → (record { machine = m; report = r′ } ≡ ranFrom m₀ (reportOf 0) (entriesOf s)) × (o′ ≡ overlaid o₀ 0 (repliesFrom m₀ (entriesOf s))) × (f′ ≡ notedBy (notesFrom m₀ (entriesOf s)) f₀)
-        decision-stops y h f′ notes =
-            let a : applyOf m e ≡ refusedBy m (d .task) y = ap (applyOf m) (sym q) ∙ applied-refuses m x t inside known d is y h in
-            let report : r′ ≡ refusedAt (refusalNumber y) r = told ∙ ap (toldOf r (kindOf x) (t .phase)) h in
-            let w = stops (ap (λ (z : Applied). accepted (z .answer)) a) in
-            (ap (λ (k : Report). record { machine = m; report = k }) report ∙ ap (λ (z : Applied). record { machine = z .machine; report = refusedAt (numberOf (z .answer)) r }) (sym a) ∙ w .0, wrote-e ∙ w .1, notes ∙ ap (λ (z : Applied). set f i (freeNow (z .machine))) (sym a) ∙ w .2)
-
-        pub decision-goes-on : (y : Deed) → d .effect ≡ Does y → length (m .tasks) ≡ 16 → (m′ : Machine) → m′ ≡ written m (record { 0 = d .task }) (y .task) (y .write) → (f′ : List ℕ) → f′ ≡ set f i (freeNow m′) → Going s o₀ f₀ m₀ o′ f′ m′ r′ (i + 1)
-        decision-goes-on y h long m′ after f′ notes =
-            let taken : accepted (applyOf m e .answer) ≡ true = ap (λ (z : List ℕ). accepted (applyOf m z .answer)) (sym q) ∙ decision-accepted m x t inside known d is y h in
-            let machine : m′ ≡ applyOf m e .machine = after ∙ ap (λ (z : Applied). z .machine) (sym (applied-does m x t inside known d is y h)) ∙ ap (λ (z : List ℕ). applyOf m z .machine) q in
-            let report : r′ ≡ counted m e r = told ∙ decision-counted m x t inside known d is y h r long ∙ ap (λ (z : List ℕ). counted m z r) q in
-            let noted : f′ ≡ set f i (freeNow (applyOf m e .machine)) = notes ∙ ap (λ (z : Machine). set f i (freeNow z)) machine in
-            rw (wrote-e, noted, machine, report) (goes-on taken)

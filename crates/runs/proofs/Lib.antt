@@ -1,5 +1,5 @@
 pub mod Laws
 pub mod Notes
-pub mod Decision
 pub mod Going
+pub mod Turning
 pub mod Unique

@@ -1,15 +1,10 @@
 -- One entry of a run, as the private functions say it: what it counts for by its kind and its task's phase before (f) and after (f′).
 use Prim.Native.Nat.{ℕ, _+_, _≤_}
 use mathlib.Core.Bool.{_&&_}
-use mathlib.Core.List.{List}
 use lib.Dec.{eqb}
 use Rattle.tallies.specs.Lists.{within}
 use Rattle.tallies.specs.Tally.{bit}
-use Rattle.answers.specs.Numbers.{refusalNumber, numberOf, valueOf}
-use Rattle.wire.specs.Bytes.{replyOf}
-use Rattle.steps.specs.Table.{answerOf}
-use Rattle.runs.specs.Types.{Report, Effect, Does, Refuses, Decision}
-use Rattle.runs.specs.Run.{refusedAt}
+use Rattle.runs.specs.Types.{Report}
 
 abbrev pub loadBegun : ℕ → ℕ
 loadBegun kind = bit (eqb kind 1)
@@ -39,12 +34,3 @@ pub record Few (k : ℕ) (r : Report) : Type 0 where
   pub load-steps : r .«load_steps» ≤ k
   pub turned-back : r .«turned_back» ≤ k
   pub swaps : r .swaps ≤ k
-
--- the report after an entry that found its task in phase f
-abbrev pub toldOf : Report → ℕ → ℕ → Effect → Report
-toldOf r kind f (Refuses x) = refusedAt (refusalNumber x) r
-toldOf r kind f (Does d) = countedBy r kind f (d .task .phase)
-
--- the reply to an entry that is decided
-abbrev pub decisionBytes : Decision → List ℕ
-decisionBytes d = replyOf (numberOf (answerOf (d .effect))) (d .task) (valueOf (answerOf (d .effect)))

@@ -12,3 +12,4 @@ pub use Rattle.cells.specs.declared.Applied.{Applied}
 pub use Rattle.cells.specs.declared.Decision.{Decision}
 pub use Rattle.runs.specs.declared.Report.{Report}
 pub use Rattle.runs.specs.declared.Ran.{Ran}
+pub use Rattle.runs.specs.declared.Left.{Left}

@@ -1,17 +1,19 @@
 // A whole schedule from bytes over a machine record: one reply an entry, the six numbers, and how many nodes are free after each entry.
-use answers::Refusal;
-use cells::Decision;
 use cells::Machine;
-use steps::Effect;
+use tasks::CellNo;
+use tasks::Task;
 use tasks::TaskNo;
 ghost use mathlib.Core.Path.{_≡_};
-ghost use Prim.Native.Nat.{_+_, _*_, _≤_, min};
+ghost use Prim.Native.Nat.{_+_, _*_, _≤_};
 ghost use lib.ListN.{length, set};
-ghost use Rattle.wire.specs.Bytes.{overlaid};
+ghost use Rattle.wire.specs.Bytes.{replyOf, overlaid};
+ghost use mathlib.Core.Bool.{true};
+ghost use Rattle.cells.specs.Machine.{inRange};
 ghost use Rattle.cells.specs.Free.{freeOf, freeValue};
 ghost use Rattle.entries.specs.Schedule.{entriesIn, entriesOf};
-ghost use Rattle.runs.specs.Run.{repliesFrom, notesFrom, notedBy, reportOf, ranFrom, untriedOf, ranOf, bufferOf, notedOf};
-ghost use Rattle.runs.specs.OneEntry.{loadBegun, loadStep, wentOf, countedBy, Few, toldOf, decisionBytes};
+ghost use Rattle.runs.specs.Run.{repliesFrom, notesFrom, notedBy, reportOf, refusedAt, ranFrom, ranOf, bufferOf, notedOf};
+ghost use Rattle.runs.specs.Lent.{Lengths, madeOf, leftRan};
+ghost use Rattle.runs.specs.OneEntry.{loadBegun, loadStep, wentOf, countedBy, Few};
 
 // Entries accepted, the refusal or 0, loads begun, load steps, turned-back checks, swaps that took: all for one run.
 pub struct Report {
@@ -93,35 +95,6 @@ fn counted(r: Report, kind: u8, from: u8, to: u8) -> Report
     }
 }
 
-// The i-th reply is written, and its entry is counted or ends the run. `from` is the phase that it found its task in.
-fn told(out: &mut [u8], i: usize, d: Decision, kind: u8, from: u8, r: Report) -> Report
-    requires { ⌜ (8 * i + 8 ≤ length (now out)) × Few 6553 r ⌝ }
-    ensures { λ q. ⌜ (q ≡ toldOf r kind from (d .effect)) × (now (out .exit) ≡ overlaid (now (out .entry)) (8 * i) (decisionBytes d)) ⌝ }
-{
-    let e = d.effect;
-    match e {
-        Effect::Refuses(x) => {
-            let number = answers::refusal_number(x);
-            wire::put_reply(out, 8 * i, number, d.task, 0);
-            let mut last = r;
-            last.refusal = number;
-            last
-        }
-        Effect::Does(deed) => {
-            let reply = deed.reply;
-            let u = deed.task;
-            wire::put_reply(
-                out,
-                8 * i,
-                answers::reply_number(reply),
-                d.task,
-                answers::reply_value(reply),
-            );
-            counted(r, kind, from, u.phase)
-        }
-    }
-}
-
 // The free-nodes question, asked of a record with these numbers: the answer stands at place i, where the buffer has one.
 fn note(free_nodes: &mut [u8], i: usize, n: u8, p: u8, k: u8, kept: u8)
     ensures { λ _. ⌜ now («free_nodes» .exit) ≡ set (now («free_nodes» .entry)) i (freeValue (freeOf n p k kept)) ⌝ }
@@ -132,101 +105,213 @@ fn note(free_nodes: &mut [u8], i: usize, n: u8, p: u8, k: u8, kept: u8)
     free_nodes[i] = cells::free::free_value(cells::free::free_nodes(n, p, k, kept));
 }
 
-// Where the entry that starts at `at` ends, in n bytes: a cut one ends with them.
-fn entry_end(at: usize, n: usize) -> usize
-    requires { ⌜ at ≤ n ⌝ }
-    ensures { λ r. ⌜ r ≡ min (at + 10) n ⌝ }
+// The reply of entry i. Its eight places are there, and they alone are handed over: so nothing is tested again.
+fn reply(out: &mut [u8], i: usize, number: u8, task: u8, value: u32)
+    requires { ⌜ 8 * i + 8 ≤ length (now out) ⌝ }
+    ensures { λ _. ⌜ now (out .exit) ≡ overlaid (now (out .entry)) (8 * i) (replyOf number task value) ⌝ }
 {
-    if 10 <= n - at { at + 10 } else { n }
+    let at = 8 * i;
+    wire::put_reply(&mut out[at..at + 8], 0, number, task, value);
 }
 
-// The entries one after the other, up to the first refused one. The record stays where it is: handing it over by value would copy it at each entry.
-fn run_entries(m: Machine, s: &[u8], out: &mut [u8], free_nodes: &mut [u8]) -> Ran
-    requires { ⌜ (length (now s) ≤ 65530) × (8 * entriesIn (now s) ≤ length (now out)) ⌝ }
-    ensures { λ r. ⌜ (r ≡ ranFrom m (reportOf 0) (entriesOf (now (s .entry)))) × (now (out .exit) ≡ overlaid (now (out .entry)) 0 (repliesFrom m (entriesOf (now (s .entry))))) × (now («free_nodes» .exit) ≡ notedBy (notesFrom m (entriesOf (now (s .entry)))) (now («free_nodes» .entry))) ⌝ }
+// What is left after a run over lent tables: the task records, the number of free nodes, the report.
+struct Left {
+    pub tasks: [Task; 16],
+    pub free: u8,
+    pub report: Report,
+}
+
+// The entry with this refusal ends the run.
+fn ended(r: Report, refusal: u8) -> Report
+    ensures { λ q. ⌜ q ≡ refusedAt refusal r ⌝ }
 {
-    let n = s.len();
-    let count = (n + 9) / 10;
-    let mut machine = m;
+    let mut last = r;
+    last.refusal = refusal;
+    last
+}
+
+// The entries one after the other, up to the first refused one, over lent tables. They are in range, and each entry keeps them so.
+fn run_tables(
+    n: u8,
+    p: u8,
+    k: u8,
+    free: u8,
+    cells: &mut [u8; 64],
+    values: &mut [u32; 128],
+    counts: &mut [u8; 128],
+    ts: [Task; 16],
+    s: &[u8],
+    out: &mut [u8],
+    free_nodes: &mut [u8],
+) -> Left
+    requires { ⌜ (length (now s) ≤ 65530) × (8 * entriesIn (now s) ≤ length (now out)) × Lengths (now cells) (now values) (now counts) × (inRange (madeOf n p k free (now cells) (now values) (now counts) ts) ≡ true) ⌝ }
+    ensures { λ r. ⌜ (leftRan n p k (now (cells .exit)) (now (values .exit)) (now (counts .exit)) r ≡ ranFrom (madeOf n p k free (now (cells .entry)) (now (values .entry)) (now (counts .entry)) ts) (reportOf 0) (entriesOf (now (s .entry)))) × (now (out .exit) ≡ overlaid (now (out .entry)) 0 (repliesFrom (madeOf n p k free (now (cells .entry)) (now (values .entry)) (now (counts .entry)) ts) (entriesOf (now (s .entry))))) × (now («free_nodes» .exit) ≡ notedBy (notesFrom (madeOf n p k free (now (cells .entry)) (now (values .entry)) (now (counts .entry)) ts) (entriesOf (now (s .entry)))) (now («free_nodes» .entry))) ⌝ }
+{
+    let len = s.len();
+    let count = (len + 9) / 10;
+    let mut tasks = ts;
+    let mut left = free;
     let mut report = no_report(0);
     let mut i: usize = 0;
     while i < count {
         let at = 10 * i;
-        let end = entry_end(at, n);
-        let e = &s[at..end];
-        let kind = wire::byte_at(e, 3);
-        let j = tables::slot(TaskNo(wire::byte_at(e, 2)));
-        let t = machine.tasks[j];
-        let ts = machine.tasks;
-        let inside = tables::tasks_ok(ts, machine.n, machine.p, machine.k);
-        let d = cells::decided(
-            machine.n,
-            machine.p,
-            machine.k,
-            machine.free,
-            &machine.cells,
-            &machine.values,
-            &machine.counts,
-            t,
-            inside,
-            e,
-        );
-        report = told(out, i, d, kind, t.phase, report);
-        let effect = d.effect;
-        match effect {
-            Effect::Refuses(_) => {
-                note(free_nodes, i, machine.n, machine.p, machine.k, machine.free);
-                return Ran {
-                    machine: machine,
-                    report: report,
-                };
-            }
-            Effect::Does(deed) => {
-                let u = deed.task;
-                let w = deed.write;
-                machine.tasks[j] = u;
-                cells::write_cells(&mut machine.cells, w);
-                cells::write_values(&mut machine.values, w);
-                cells::write_counts(&mut machine.counts, w);
-                let left = cells::write_free(machine.free, w);
-                // asked of the record that this entry leaves
-                note(free_nodes, i, machine.n, machine.p, machine.k, left);
-                machine.free = left;
-            }
+        if len - at < 10 {
+            reply(out, i, 20, 0, 0);
+            note(free_nodes, i, n, p, k, left);
+            let last = ended(report, 20);
+            return Left {
+                tasks: tasks,
+                free: left,
+                report: last,
+            };
         }
+        let e = &s[at..at + 10];
+        if !wire::starts_with(e, wire::ENTRY) {
+            reply(out, i, 19, 0, 0);
+            note(free_nodes, i, n, p, k, left);
+            let last = ended(report, 19);
+            return Left {
+                tasks: tasks,
+                free: left,
+                report: last,
+            };
+        }
+        let q = e[2];
+        let kind = e[3];
+        let x = e[4];
+        let spare = e[5];
+        let y = wire::word_at(e, 6);
+        let j = tables::slot(TaskNo(q));
+        let was = tasks[j];
+        let t = was.copied();
+        let d = turns::turn(
+            n,
+            p,
+            k,
+            left,
+            cells,
+            values,
+            counts,
+            t,
+            TaskNo(q),
+            kind,
+            CellNo(x),
+            spare,
+            y,
+        );
+        let a = d.answer;
+        let number = answers::number(a);
+        reply(out, i, number, q, answers::value(a));
+        if 10 < number {
+            note(free_nodes, i, n, p, k, left);
+            let last = ended(report, number);
+            return Left {
+                tasks: tasks,
+                free: left,
+                report: last,
+            };
+        }
+        let next = d.task;
+        let u = next.copied();
+        tasks[j] = u;
+        // asked of the tables that this entry leaves
+        note(free_nodes, i, n, p, k, d.free);
+        left = d.free;
+        report = counted(report, kind, t.phase, u.phase);
         i += 1;
     }
-    Ran {
-        machine: machine,
+    Left {
+        tasks: tasks,
+        free: left,
         report: report,
     }
 }
 
-fn untried(m: Machine, refusal: Refusal) -> Ran
-    ensures { λ r. ⌜ r ≡ untriedOf m refusal ⌝ }
+// A run over lent tables: 22 by ranges, 23 and 21 come before any entry, in that order. Each entry tried leaves its number of free nodes, while there is room.
+fn run_lent(
+    n: u8,
+    p: u8,
+    k: u8,
+    free: u8,
+    cells: &mut [u8; 64],
+    values: &mut [u32; 128],
+    counts: &mut [u8; 128],
+    ts: [Task; 16],
+    s: &[u8],
+    out: &mut [u8],
+    free_nodes: &mut [u8],
+) -> Left
+    requires { ⌜ Lengths (now cells) (now values) (now counts) ⌝ }
+    ensures { λ r. ⌜ (leftRan n p k (now (cells .exit)) (now (values .exit)) (now (counts .exit)) r ≡ ranOf (madeOf n p k free (now (cells .entry)) (now (values .entry)) (now (counts .entry)) ts) (now (s .entry)) (length (now (out .entry)))) × (now (out .exit) ≡ bufferOf (madeOf n p k free (now (cells .entry)) (now (values .entry)) (now (counts .entry)) ts) (now (s .entry)) (now (out .entry))) × (now («free_nodes» .exit) ≡ notedOf (madeOf n p k free (now (cells .entry)) (now (values .entry)) (now (counts .entry)) ts) (now (s .entry)) (length (now (out .entry))) (now («free_nodes» .entry))) ⌝ }
 {
-    let number = answers::refusal_number(refusal);
-    Ran {
-        machine: m,
-        report: no_report(number),
+    if !cells::tables_ok(n, p, k, free, cells, counts) {
+        return Left {
+            tasks: ts,
+            free: free,
+            report: no_report(22),
+        };
     }
+    if !tables::tasks_ok(ts, n, p, k) {
+        return Left {
+            tasks: ts,
+            free: free,
+            report: no_report(22),
+        };
+    }
+    let len = s.len();
+    if 65530 < len {
+        return Left {
+            tasks: ts,
+            free: free,
+            report: no_report(23),
+        };
+    }
+    if out.len() < 8 * ((len + 9) / 10) {
+        return Left {
+            tasks: ts,
+            free: free,
+            report: no_report(21),
+        };
+    }
+    run_tables(n, p, k, free, cells, values, counts, ts, s, out, free_nodes)
 }
 
-// A run: 22 by ranges, 23 and 21 come before any entry, in that order. Each entry tried leaves its number of free nodes, while there is room.
+// The same of a machine's record: its tables are lent, and the record is put together anew.
 pub fn run_free(m: Machine, s: &[u8], out: &mut [u8], free_nodes: &mut [u8]) -> Ran
     ensures { λ r. ⌜ (r ≡ ranOf m (now (s .entry)) (length (now (out .entry)))) × (now (out .exit) ≡ bufferOf m (now (s .entry)) (now (out .entry))) × (now («free_nodes» .exit) ≡ notedOf m (now (s .entry)) (length (now (out .entry))) (now («free_nodes» .entry))) ⌝ }
 {
-    if !m.in_range() {
-        return untried(m, Refusal::Damaged);
+    let mut cells = m.cells;
+    let mut values = m.values;
+    let mut counts = m.counts;
+    let ts = m.tasks;
+    let left = run_lent(
+        m.n,
+        m.p,
+        m.k,
+        m.free,
+        &mut cells,
+        &mut values,
+        &mut counts,
+        ts,
+        s,
+        out,
+        free_nodes,
+    );
+    let us = left.tasks;
+    let report = left.report;
+    Ran {
+        machine: Machine {
+            n: m.n,
+            p: m.p,
+            k: m.k,
+            free: left.free,
+            cells: cells,
+            values: values,
+            counts: counts,
+            tasks: us,
+        },
+        report: report,
     }
-    let n = s.len();
-    if 65530 < n {
-        return untried(m, Refusal::TooLong);
-    }
-    if out.len() < 8 * ((n + 9) / 10) {
-        return untried(m, Refusal::NoRoom);
-    }
-    run_entries(m, s, out, free_nodes)
 }
 
 // A run whose free nodes nobody asks for.

@@ -10,7 +10,7 @@ ghost use lib.Dec.{eqb};
 ghost use Rattle.tallies.specs.Lists.{within};
 ghost use Rattle.tallies.specs.Tally.{bit};
 ghost use Rattle.tasks.specs.Phases.{storing};
-ghost use Rattle.steps.specs.Table.{after, recountedOf, raisedOf, loweredOf, does, counting, s2, s3, s6, v1, effectOf};
+ghost use Rattle.steps.specs.Table.{after, recountedOf, raisedOf, loweredOf, does, counting, l1, l2, l3, l4, l5, s1, s2, s3, s5, s6, s7, r1, v1, effectOf};
 
 // All that a step can see but its own task's record: the node of x, the counts of m and of the cursor's node, m's value, P, K, the free nodes' number.
 pub struct Seen {
@@ -60,7 +60,7 @@ pub fn next_node(k: u8, v: NodeNo) -> NodeNo
     NodeNo(next)
 }
 
-// 1 where a node with that count is free.
+// 1 if a node with that count is free, else 0.
 fn free_one(count: u8) -> u16
     ensures { λ r. ⌜ r ≡ bit (eqb count 0) ⌝ }
 {
@@ -127,29 +127,56 @@ fn settled(c: Counted, t: Task, r: Reply) -> Effect
     }
 }
 
-// Phases 1 to 5.
-fn load_step(t: Task, s: Seen) -> Effect
-    requires { ⌜ within 1 5 (t .phase) ≡ true ⌝ }
-    ensures { λ r. ⌜ r ≡ effectOf t s ⌝ }
+// L1: m becomes the node of x.
+pub fn l1_step(t: Task, s: Seen) -> Effect
+    ensures { λ r. ⌜ r ≡ l1 t s ⌝ }
 {
-    let f = t.phase;
-    match f {
-        1 => done(t.holding(s.here).onward(2), Write::Nothing, Reply::Moved),
-        2 => settled(raised(s, t.held, s.held_count), t.onward(3), Reply::Moved),
-        3 => {
-            if t.held.0 == s.here.0 {
-                done(t.onward(4), Write::Nothing, Reply::Moved)
-            } else {
-                done(t.onward(5), Write::Nothing, Reply::Moved)
-            }
-        }
-        4 => done(t.onward(6), Write::Nothing, Reply::Loaded(s.held_value)),
-        _ => settled(lowered(s, t.held, s.held_count), t.onward(1), Reply::Moved),
+    done(t.holding(s.here).onward(2), Write::Nothing, Reply::Moved)
+}
+
+// L2: the count of m goes up by 1.
+pub fn l2_step(t: Task, s: Seen) -> Effect
+    ensures { λ r. ⌜ r ≡ l2 t s ⌝ }
+{
+    settled(raised(s, t.held, s.held_count), t.onward(3), Reply::Moved)
+}
+
+// L3: m is compared with the node of x. If they are equal, L4 comes next, else L5.
+pub fn l3_step(t: Task, s: Seen) -> Effect
+    ensures { λ r. ⌜ r ≡ l3 t s ⌝ }
+{
+    let same = t.held.0 == s.here.0;
+    if same {
+        done(t.onward(4), Write::Nothing, Reply::Moved)
+    } else {
+        done(t.onward(5), Write::Nothing, Reply::Moved)
     }
 }
 
-// S2: the swap compares node numbers, never values.
-fn swap_step(t: Task, s: Seen) -> Effect
+// L4: the value of m is copied, and the load has ended.
+pub fn l4_step(t: Task, s: Seen) -> Effect
+    ensures { λ r. ⌜ r ≡ l4 t s ⌝ }
+{
+    done(t.onward(6), Write::Nothing, Reply::Loaded(s.held_value))
+}
+
+// L5: the count of m goes down by 1, and the load begins again.
+pub fn l5_step(t: Task, s: Seen) -> Effect
+    ensures { λ r. ⌜ r ≡ l5 t s ⌝ }
+{
+    settled(lowered(s, t.held, s.held_count), t.onward(1), Reply::Moved)
+}
+
+// S1: the own node takes the value to store.
+pub fn s1_step(t: Task, s: Seen) -> Effect
+    ensures { λ r. ⌜ r ≡ s1 t s ⌝ }
+{
+    let o = t.own;
+    done(t.onward(8), Write::Value(o, t.value), Reply::Moved)
+}
+
+// S2: if x is still at m, x points at the own node. The swap compares node numbers, never values.
+pub fn s2_step(t: Task, s: Seen) -> Effect
     ensures { λ r. ⌜ r ≡ s2 t s ⌝ }
 {
     if t.held.0 == s.here.0 {
@@ -161,8 +188,8 @@ fn swap_step(t: Task, s: Seen) -> Effect
     }
 }
 
-// S3: the storing task itself still holds m, so m is free for it where 1 is left.
-fn leave_step(t: Task, s: Seen) -> Effect
+// S3: the count of m goes down by 1. The storing task itself still holds m, so m is free for it if 1 is left.
+pub fn s3_step(t: Task, s: Seen) -> Effect
     ensures { λ r. ⌜ r ≡ s3 t s ⌝ }
 {
     match lowered(s, t.held, s.held_count) {
@@ -177,8 +204,19 @@ fn leave_step(t: Task, s: Seen) -> Effect
     }
 }
 
-// S6: the test of the cursor's node and the setting of its count are one step.
-fn seek_step(t: Task, s: Seen) -> Effect
+// S5: the count of m goes down by 1, and the cursor goes to the node after m.
+pub fn s5_step(t: Task, s: Seen) -> Effect
+    ensures { λ r. ⌜ r ≡ s5 t s ⌝ }
+{
+    settled(
+        lowered(s, t.held, s.held_count),
+        t.probing(next_node(s.nodes, t.held)).onward(12),
+        Reply::Moved,
+    )
+}
+
+// S6: if the cursor's node is free, it becomes the own node, else the cursor goes on. The test and the setting of the count are one step.
+pub fn s6_step(t: Task, s: Seen) -> Effect
     ensures { λ r. ⌜ r ≡ s6 t s ⌝ }
 {
     if s.cursor_count == 0 {
@@ -193,31 +231,26 @@ fn seek_step(t: Task, s: Seen) -> Effect
     }
 }
 
-// Phases 7 to 9 and 11 to 13: there is no phase 10.
-fn store_step(t: Task, s: Seen) -> Effect
-    requires { ⌜ storing (t .phase) ≡ true ⌝ }
-    ensures { λ r. ⌜ r ≡ effectOf t s ⌝ }
+// S7: the count of m goes down by 1, and the store is lost.
+pub fn s7_step(t: Task, s: Seen) -> Effect
+    ensures { λ r. ⌜ r ≡ s7 t s ⌝ }
 {
-    let f = t.phase;
-    match f {
-        7 => {
-            let o = t.own;
-            done(t.onward(8), Write::Value(o, t.value), Reply::Moved)
-        }
-        8 => swap_step(t, s),
-        9 => leave_step(t, s),
-        11 => settled(
-            lowered(s, t.held, s.held_count),
-            t.probing(next_node(s.nodes, t.held)).onward(12),
-            Reply::Moved,
-        ),
-        12 => seek_step(t, s),
-        _ => settled(lowered(s, t.held, s.held_count), t.onward(0), Reply::Lost),
-    }
+    settled(lowered(s, t.held, s.held_count), t.onward(0), Reply::Lost)
 }
 
-// V1: like the swap, it compares node numbers, never values; either way the task stays linked.
-fn validate_step(t: Task, s: Seen) -> Effect
+// R1: the count of m goes down by 1, and the release has ended.
+pub fn r1_step(t: Task, s: Seen) -> Effect
+    ensures { λ r. ⌜ r ≡ r1 t s ⌝ }
+{
+    settled(
+        lowered(s, t.held, s.held_count),
+        t.onward(0),
+        Reply::Released,
+    )
+}
+
+// V1: m is compared with the node of x. Like the swap, it compares node numbers, never values; either way the task stays linked.
+pub fn v1_step(t: Task, s: Seen) -> Effect
     ensures { λ r. ⌜ r ≡ v1 t s ⌝ }
 {
     let good = t.held.0 == s.here.0;
@@ -225,6 +258,37 @@ fn validate_step(t: Task, s: Seen) -> Effect
         done(t.onward(6), Write::Nothing, Reply::Good)
     } else {
         done(t.onward(6), Write::Nothing, Reply::Gone)
+    }
+}
+
+// Phases 1 to 5.
+fn load_step(t: Task, s: Seen) -> Effect
+    requires { ⌜ within 1 5 (t .phase) ≡ true ⌝ }
+    ensures { λ r. ⌜ r ≡ effectOf t s ⌝ }
+{
+    let f = t.phase;
+    match f {
+        1 => l1_step(t, s),
+        2 => l2_step(t, s),
+        3 => l3_step(t, s),
+        4 => l4_step(t, s),
+        _ => l5_step(t, s),
+    }
+}
+
+// Phases 7 to 9 and 11 to 13: there is no phase 10.
+fn store_step(t: Task, s: Seen) -> Effect
+    requires { ⌜ storing (t .phase) ≡ true ⌝ }
+    ensures { λ r. ⌜ r ≡ effectOf t s ⌝ }
+{
+    let f = t.phase;
+    match f {
+        7 => s1_step(t, s),
+        8 => s2_step(t, s),
+        9 => s3_step(t, s),
+        11 => s5_step(t, s),
+        12 => s6_step(t, s),
+        _ => s7_step(t, s),
     }
 }
 
@@ -238,12 +302,8 @@ pub fn step(t: Task, s: Seen) -> Effect
         1..=5 => load_step(t, s),
         6 => Effect::Refuses(Refusal::NoStep),
         7..=9 | 11..=13 => store_step(t, s),
-        14 => settled(
-            lowered(s, t.held, s.held_count),
-            t.onward(0),
-            Reply::Released,
-        ),
-        15 => validate_step(t, s),
+        14 => r1_step(t, s),
+        15 => v1_step(t, s),
         _ => Effect::Refuses(Refusal::Damaged),
     }
 }

@@ -11,6 +11,9 @@ cellNo i = record { 0 = i }
 abbrev pub nodeNo : ℕ → NodeNo
 nodeNo i = record { 0 = i }
 
+abbrev pub withFields : ℕ → CellNo → ℕ → NodeNo → NodeNo → NodeNo → Task
+withFields phase cell value held own cursor = record { phase = phase; cell = cell; value = value; held = held; own = own; cursor = cursor }
+
 -- idle, cursor, link and store value 0
 abbrev pub idleOwning : NodeNo → Task
 idleOwning v = record { phase = 0; cell = cellNo 0; value = 0; held = nodeNo 0; own = v; cursor = nodeNo 0 }

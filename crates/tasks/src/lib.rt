@@ -2,7 +2,7 @@
 ghost use mathlib.Core.Path.{_≡_};
 ghost use Prim.Native.Nat.{_≤_};
 ghost use lib.ListN.{take};
-ghost use Rattle.tasks.specs.Records.{idleOwning, onward, holding, owning, probing, taskOk};
+ghost use Rattle.tasks.specs.Records.{withFields, idleOwning, onward, holding, owning, probing, taskOk};
 ghost use Rattle.tasks.specs.Calls.{begunOf};
 ghost use Rattle.tasks.specs.Holders.{keeps, beyondOf, holdersOf, heldAmong, holdersNumber, holdersValue};
 
@@ -37,47 +37,78 @@ pub enum HolderCount {
     Refused,
 }
 
+// A record of these fields. Every new record is made here: a copy with one field written anew would be made byte by byte, which takes longer.
+fn with_fields(
+    phase: u8,
+    cell: CellNo,
+    value: u32,
+    held: NodeNo,
+    own: NodeNo,
+    cursor: NodeNo,
+) -> Task
+    ensures { λ r. ⌜ r ≡ withFields phase cell value held own cursor ⌝ }
+{
+    Task {
+        phase: phase,
+        cell: cell,
+        value: value,
+        held: held,
+        own: own,
+        cursor: cursor,
+    }
+}
+
 // The record of an idle task that owns node v.
 pub fn idle_owning(v: NodeNo) -> Task
     ensures { λ r. ⌜ r ≡ idleOwning v ⌝ }
 {
-    Task {
-        phase: 0,
-        cell: CellNo(0),
-        value: 0,
-        held: NodeNo(0),
-        own: v,
-        cursor: NodeNo(0),
-    }
+    with_fields(0, CellNo(0), 0, NodeNo(0), v, NodeNo(0))
 }
 
 impl Task {
-    pub fn onward(mut self, phase: u8) -> Task
+    pub fn onward(self, phase: u8) -> Task
         ensures { λ r. ⌜ r ≡ onward self phase ⌝ }
     {
-        self.phase = phase;
-        self
+        with_fields(
+            phase,
+            self.cell,
+            self.value,
+            self.held,
+            self.own,
+            self.cursor,
+        )
     }
 
-    pub fn holding(mut self, v: NodeNo) -> Task
+    pub fn holding(self, v: NodeNo) -> Task
         ensures { λ r. ⌜ r ≡ holding self v ⌝ }
     {
-        self.held = v;
-        self
+        with_fields(self.phase, self.cell, self.value, v, self.own, self.cursor)
     }
 
-    pub fn owning(mut self, v: NodeNo) -> Task
+    pub fn owning(self, v: NodeNo) -> Task
         ensures { λ r. ⌜ r ≡ owning self v ⌝ }
     {
-        self.own = v;
-        self
+        with_fields(self.phase, self.cell, self.value, self.held, v, self.cursor)
     }
 
-    pub fn probing(mut self, v: NodeNo) -> Task
+    pub fn probing(self, v: NodeNo) -> Task
         ensures { λ r. ⌜ r ≡ probing self v ⌝ }
     {
-        self.cursor = v;
-        self
+        with_fields(self.phase, self.cell, self.value, self.held, self.own, v)
+    }
+
+    // The same record, made anew.
+    pub fn copied(self) -> Task
+        ensures { λ r. ⌜ r ≡ self ⌝ }
+    {
+        with_fields(
+            self.phase,
+            self.cell,
+            self.value,
+            self.held,
+            self.own,
+            self.cursor,
+        )
     }
 
     // The part of refusal 22's ranges that concerns one record, for n cells and k nodes.

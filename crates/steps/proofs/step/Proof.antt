@@ -8,17 +8,11 @@ use borrow.Author.Needs.{needs}
 use Rattle.steps.proofs.step.Statement.{statement}
 use Rattle.steps.proofs.step.Tie as tie
 
-lowered-requires : tie.Need-lowered-requires
-lowered-requires c κs = search needs
+r1-step-requires : tie.Need-r1-step-requires
+r1-step-requires c κs = search needs
 
-onward-requires : tie.Need-onward-requires
-onward-requires c κs = search needs
-
-settled-requires : tie.Need-settled-requires
-settled-requires c κs = search needs
-
-validate-step-requires : tie.Need-validate-step-requires
-validate-step-requires c κs = search needs
+v1-step-requires : tie.Need-v1-step-requires
+v1-step-requires c κs = search needs
 
 load-step-requires : tie.Need-load-step-requires
 load-step-requires c κs = within-true 1 5 (c .before .before .args .t .phase) (omega arith) (omega arith)
@@ -37,12 +31,11 @@ returns-2 c = rw (effect-at (c .before .args .t) (c .before .args .s) 6 (c .matc
 
 returns-3 : tie.Need-returns-3
 unfolding rows
-returns-3 c = let a = c .before .before .before .before .args in
-    rw (effect-at (a .t) (a .s) 14 (c .before .before .before .match .keys3), c .settled .ensures, c .before .onward .ensures, c .before .before .lowered .ensures)
+returns-3 c = let a = c .before .before .args in rw (effect-at (a .t) (a .s) 14 (c .before .match .keys3)) (c .r1-step .ensures)
 
 returns-4 : tie.Need-returns-4
 unfolding rows
-returns-4 c = let a = c .before .before .args in rw (effect-at (a .t) (a .s) 15 (c .before .match .keys4)) (c .validate-step .ensures)
+returns-4 c = let a = c .before .before .args in rw (effect-at (a .t) (a .s) 15 (c .before .match .keys4)) (c .v1-step .ensures)
 
 returns-5 : tie.Need-returns-5
 returns-5 c = search needs
@@ -60,10 +53,8 @@ pub step-spec : {M : Type 1} → statement M
 step-spec =
     tie.close
     (tie.spec
-    lowered-requires
-    onward-requires
-    settled-requires
-    validate-step-requires
+    r1-step-requires
+    v1-step-requires
     load-step-requires
     store-step-requires
     returns

@@ -9,90 +9,61 @@ use borrow.Author.Needs.{needs}
 use Rattle.steps.proofs.store_step.Statement.{statement}
 use Rattle.steps.proofs.store_step.Tie as tie
 
-onward-requires : tie.Need-onward-requires
-onward-requires c κs = search needs
+s1-step-requires : tie.Need-s1-step-requires
+s1-step-requires c κs = search needs
 
-done-requires : tie.Need-done-requires
-done-requires c κs = search needs
+s2-step-requires : tie.Need-s2-step-requires
+s2-step-requires c κs = search needs
 
-swap-step-requires : tie.Need-swap-step-requires
-swap-step-requires c κs = search needs
+s3-step-requires : tie.Need-s3-step-requires
+s3-step-requires c κs = search needs
 
-leave-step-requires : tie.Need-leave-step-requires
-leave-step-requires c κs = search needs
+s5-step-requires : tie.Need-s5-step-requires
+s5-step-requires c κs = search needs
 
-lowered-requires : tie.Need-lowered-requires
-lowered-requires c κs = search needs
+s6-step-requires : tie.Need-s6-step-requires
+s6-step-requires c κs = search needs
 
-next-node-requires : tie.Need-next-node-requires
-next-node-requires c κs = search needs
-
-probing-requires : tie.Need-probing-requires
-probing-requires c κs = search needs
-
-onward-requires-2 : tie.Need-onward-requires-2
-onward-requires-2 c κs = search needs
-
-settled-requires : tie.Need-settled-requires
-settled-requires c κs = search needs
-
-seek-step-requires : tie.Need-seek-step-requires
-seek-step-requires c κs = search needs
-
-lowered-requires-2 : tie.Need-lowered-requires-2
-lowered-requires-2 c κs = search needs
-
-onward-requires-3 : tie.Need-onward-requires-3
-onward-requires-3 c κs = search needs
-
-settled-requires-2 : tie.Need-settled-requires-2
-settled-requires-2 c κs = search needs
+s7-step-requires : tie.Need-s7-step-requires
+s7-step-requires c κs = search needs
 
 returns : tie.Need-returns
 unfolding rows
-returns c = let a = c .before .before .before .before .args in
-    rw (effect-at (a .t) (a .s) 7 (c .before .before .before .match .keys1), c .done .ensures, c .before .onward .ensures)
+returns c = let a = c .before .before .args in rw (effect-at (a .t) (a .s) 7 (c .before .match .keys1)) (c .s1-step .ensures)
 
 returns-2 : tie.Need-returns-2
 unfolding rows
-returns-2 c = let a = c .before .before .args in rw (effect-at (a .t) (a .s) 8 (c .before .match .keys2)) (c .swap-step .ensures)
+returns-2 c = let a = c .before .before .args in rw (effect-at (a .t) (a .s) 8 (c .before .match .keys2)) (c .s2-step .ensures)
 
 returns-3 : tie.Need-returns-3
 unfolding rows
-returns-3 c = let a = c .before .before .args in rw (effect-at (a .t) (a .s) 9 (c .before .match .keys3)) (c .leave-step .ensures)
+returns-3 c = let a = c .before .before .args in rw (effect-at (a .t) (a .s) 9 (c .before .match .keys3)) (c .s3-step .ensures)
 
 returns-4 : tie.Need-returns-4
 unfolding rows
-returns-4 c = let a = c .before .before .before .before .before .before .args in
-    rw (effect-at (a .t) (a .s) 11 (c .before .before .before .before .before .match .keys4), c .settled .ensures, c .before .onward2 .ensures, c .before .before .probing .ensures, c .before .before .before .next-node .ensures, c .before .before .before .before .lowered .ensures)
+returns-4 c = let a = c .before .before .args in rw (effect-at (a .t) (a .s) 11 (c .before .match .keys4)) (c .s5-step .ensures)
 
 returns-5 : tie.Need-returns-5
 unfolding rows
-returns-5 c = let a = c .before .before .args in rw (effect-at (a .t) (a .s) 12 (c .before .match .keys5)) (c .seek-step .ensures)
+returns-5 c = let a = c .before .before .args in rw (effect-at (a .t) (a .s) 12 (c .before .match .keys5)) (c .s6-step .ensures)
 
 returns-6 : tie.Need-returns-6
 unfolding rows
-returns-6 c = let a = c .before .before .before .before .args in
-    let e : a .t .phase ≡ 13 = ⊎-elim (λ w. omega arith) (λ w. omega arith) (within-either 7 9 11 13 (a .t .phase) (c .before .before .before .before .pre)) in
-    rw (effect-at (a .t) (a .s) 13 e, c .settled2 .ensures, c .before .onward3 .ensures, c .before .before .lowered2 .ensures)
+returns-6 c =
+    let a = c .before .before .args in
+    let e : a .t .phase ≡ 13 = ⊎-elim (λ w. omega arith) (λ w. omega arith) (within-either 7 9 11 13 (a .t .phase) (c .before .before .pre)) in
+    rw (effect-at (a .t) (a .s) 13 e) (c .s7-step .ensures)
 
 pub store-step-spec : {M : Type 1} → statement M
 store-step-spec =
     tie.close
     (tie.spec
-    onward-requires
-    done-requires
-    swap-step-requires
-    leave-step-requires
-    lowered-requires
-    next-node-requires
-    probing-requires
-    onward-requires-2
-    settled-requires
-    seek-step-requires
-    lowered-requires-2
-    onward-requires-3
-    settled-requires-2
+    s1-step-requires
+    s2-step-requires
+    s3-step-requires
+    s5-step-requires
+    s6-step-requires
+    s7-step-requires
     returns
     returns-2
     returns-3
