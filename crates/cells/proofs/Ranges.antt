@@ -1,7 +1,7 @@
--- An entry leaves every record that is in range in range: so a run that tests once needs no test after that. Assumes nothing.
+-- An entry leaves every record that is in range in range, reached from a setup or not: so a run that tests once needs no test after that. Assumes nothing.
 use Prim.Native.Nat.{ℕ, zero, suc, _+_, _*_, _-_, _≤_, _<_}
 use mathlib.Core.Path.{_≡_, refl, sym, ap, _∙_, subst}
-use mathlib.Core.Bool.{Bool, true, false, not, _&&_, _||_}
+use mathlib.Core.Bool.{Bool, true, not, _&&_}
 use mathlib.Core.List.{List, [], _∷_}
 use native.Mathlib.Decide.{ℕ-discrete}
 use native.Mathlib.Nat.{mod-lt}
@@ -9,7 +9,7 @@ use native.Mathlib.Omega.{arith}
 use lib.Dec.{eqb, leb, ltb}
 use lib.ListN.{length, getD, set}
 use lib.Seq.{getD-set-same, getD-set-other}
-use borrow.Author.Tests.{lt-ltb, le-leb, ltb-true, ltb-false, leb-true, leb-false, eqb-true, eqb-false, not-true, not-false}
+use borrow.Author.Tests.{lt-ltb, le-leb, ltb-true, ltb-false, leb-true, leb-false}
 use Rattle.tallies.specs.Lists.{every}
 use Rattle.tallies.specs.Tally.{bit}
 use Rattle.tallies.proofs.Lists.{both, by-test, every-true, every-at}
@@ -21,13 +21,13 @@ use Rattle.answers.specs.declared.Reply.{Reply}
 use Rattle.answers.specs.declared.Reply.the-variants.{Moved, Took, Lost, Released}
 use Rattle.steps.specs.declared.Counted.{Counted}
 use Rattle.steps.specs.declared.Counted.the-variants.{To, Broken}
-use Rattle.steps.specs.Table.{after, freeAfter, recountedOf, raisedOf, loweredOf, counting, leaving, Row, rows, noPhase, effectOf}
+use Rattle.steps.specs.Table.{after, freeAfter, recountedOf, raisedOf, loweredOf, counting, leaving, Row, l1, l2, l3, l4, l5, s1, s2, s3, s5, s6, s7, r1, v1, rows, noPhase, effectOf}
 use Rattle.tables.specs.Tables.{sizesOk, cellOk, countOk, taskOkIn, taskIn}
 use Rattle.tables.proofs.Laws.{sizes-bounds}
 use Rattle.entries.specs.Entry.{entryAt, entryOf, nonzero, outside}
 use Rattle.entries.specs.Order.{linkedTo, loadOf, storeOf, linkedCallOf, callOf, orderOf}
 use Rattle.cells.specs.Types.{Machine, TaskNo, Task, Seen, Write, Nothing, Point, Count, Value, Effect, Does, Refuses, Entry, EntryRead, Decision}
-use Rattle.cells.specs.Machine.{seenOf, cellsAfter, countsAfter, freeBy, leftBy, carriedOf, poolOk, tablesOk, inRange}
+use Rattle.cells.specs.Machine.{seenOf, cellsAfter, countsAfter, freeBy, leftBy, carriedOf, poolOk, inRange}
 use Rattle.cells.specs.Apply.{judgedOf, decisionOf, carriedBy, applyOf}
 use Rattle.cells.proofs.Written.{Long}
 
@@ -72,7 +72,7 @@ picked P [] a z i = z
 picked P (r ∷ l) a z zero = a .0
 picked P (r ∷ l) a z (suc i) = picked P l (a .1) z i
 
--- a step's record and write are in range, where its task's fields and what it sees are
+-- a step's record and write are in range, if its task's fields and what it sees are
 module _ (n : ℕ) (t : Task) (s : Seen) (i : Inside n (s .nodes) t) (here : s .here .0 < s .nodes) (most : s .«held_count» ≤ s .tasks + 1) where
   abbrev Good : Effect → Type 0
   Good e = Fair n (s .tasks) (s .nodes) e
@@ -106,65 +106,59 @@ module _ (n : ℕ) (t : Task) (s : Seen) (i : Inside n (s .nodes) t) (here : s .
   lowers : (t′ : Task) (r : Reply) → taskOk n (s .nodes) t′ ≡ true → Good (counting (loweredOf s (t .held) (s .«held_count»)) t′ r)
   lowers t′ r h = by-lowered (λ c. Good (counting c t′ r)) (t .held) (s .«held_count») tt (λ f. (h, (omega arith, f)))
 
-  leaves : Good (leaving (loweredOf s (t .held) (s .«held_count»)) t)
-  leaves =
+  -- row by row
+  l1-fair : Good (l1 t s)
+  l1-fair = (ok-fields n (s .nodes) _ refl (record { cell = i .cell; held = here; own = i .own; cursor = i .cursor }), tt)
+
+  l2-fair : Good (l2 t s)
+  l2-fair = by-raised (λ c. Good (counting c (onward t 3) Moved)) (t .held) (s .«held_count») tt (λ c f. (moved 3 refl, (omega arith, f)))
+
+  l3-fair : Good (l3 t s)
+  l3-fair = by-test Good (eqb (t .held .0) (s .here .0)) _ _ (λ q. (moved 4 refl, tt)) (λ q. (moved 5 refl, tt))
+
+  l4-fair : Good (l4 t s)
+  l4-fair = (moved 6 refl, tt)
+
+  l5-fair : Good (l5 t s)
+  l5-fair = lowers (onward t 1) Moved (moved 1 refl)
+
+  s1-fair : Good (s1 t s)
+  s1-fair = (moved 8 refl, tt)
+
+  s2-fair : Good (s2 t s)
+  s2-fair = by-test Good (eqb (t .held .0) (s .here .0)) _ _ (λ q. (moved 9 refl, i .own)) (λ q. (moved 13 refl, tt))
+
+  s3-fair : Good (s3 t s)
+  s3-fair =
       by-lowered (λ c. Good (leaving c t)) (t .held) (s .«held_count») tt
       (λ f. by-test Good (eqb (s .«held_count» - 1) 1) _ _ (λ q. (owner (t .held) (i .held), (omega arith, f))) (λ q. (moved 11 refl, (omega arith, f))))
 
+  s5-fair : Good (s5 t s)
+  s5-fair = lowers _ Moved (prober (t .held))
+
+  s6-fair : Good (s6 t s)
+  s6-fair =
+      by-test Good (eqb (s .«cursor_count») 0) _ _
+      (λ q. by-recounted (λ c. Good (counting c (onward (owning t (t .cursor)) 0) Took)) (t .cursor) 0 1 tt (λ f. (owner (t .cursor) (i .cursor), (omega arith, f))))
+      (λ q. (prober (t .cursor), tt))
+
+  s7-fair : Good (s7 t s)
+  s7-fair = lowers (onward t 0) Lost (moved 0 refl)
+
+  r1-fair : Good (r1 t s)
+  r1-fair = lowers (onward t 0) Released (moved 0 refl)
+
+  v1-fair : Good (v1 t s)
+  v1-fair = by-test Good (eqb (t .held .0) (s .here .0)) _ _ (λ q. (moved 6 refl, tt)) (λ q. (moved 6 refl, tt))
+
   pub step-fair : Good (effectOf t s)
   unfolding effectOf rows
-  step-fair =
-      picked (λ r. Good (r t s)) rows (
-        tt,
-        (
-          (ok-fields n (s .nodes) _ refl (record { cell = i .cell; held = here; own = i .own; cursor = i .cursor }), tt),
-          (
-            by-raised (λ c. Good (counting c (onward t 3) Moved)) (t .held) (s .«held_count») tt (λ c f. (moved 3 refl, (omega arith, f))),
-            (
-              by-test Good (eqb (t .held .0) (s .here .0)) _ _ (λ q. (moved 4 refl, tt)) (λ q. (moved 5 refl, tt)),
-              (
-                (moved 6 refl, tt),
-                (
-                  lowers (onward t 1) Moved (moved 1 refl),
-                  (
-                    tt,
-                    (
-                      (moved 8 refl, tt),
-                      (
-                        by-test Good (eqb (t .held .0) (s .here .0)) _ _ (λ q. (moved 9 refl, i .own)) (λ q. (moved 13 refl, tt)),
-                        (
-                          leaves,
-                          (
-                            tt,
-                            (
-                              lowers _ Moved (prober (t .held)),
-                              (
-                                by-test Good (eqb (s .«cursor_count») 0) _ _ (λ q. by-recounted (λ c. Good (counting c (onward (owning t (t .cursor)) 0) Took)) (t .cursor) 0 1 tt (λ f. (owner (t .cursor) (i .cursor), (omega arith, f)))) (λ q. (prober (t .cursor), tt)),
-                                (
-                                  lowers (onward t 0) Lost (moved 0 refl),
-                                  (
-                                    lowers (onward t 0) Released (moved 0 refl),
-                                    (
-                                      by-test Good (eqb (t .held .0) (s .here .0)) _ _ (λ q. (moved 6 refl, tt)) (λ q. (moved 6 refl, tt)),
-                                      tt,
-                                    ),
-                                  ),
-                                ),
-                              ),
-                            ),
-                          ),
-                        ),
-                      ),
-                    ),
-                  ),
-                ),
-              ),
-            ),
-          ),
-        ),
-      ) tt (t .phase)
+  step-fair = picked (λ r. Good (r t s)) rows each tt (t .phase)
+    where
+      each : All (λ r. Good (r t s)) rows
+      each = (tt, (l1-fair, (l2-fair, (l3-fair, (l4-fair, (l5-fair, (tt, (s1-fair, (s2-fair, (s3-fair, (tt, (s5-fair, (s6-fair, (s7-fair, (r1-fair, (v1-fair, tt))))))))))))))))
 
--- and so are those of every entry, where its task's record and what it sees are
+-- and so are those of every entry, if its task's record and what it sees are
 module _ (n : ℕ) (e : Entry) (t : Task) (s : Seen) (i : e .task .0 < s .tasks → taskOk n (s .nodes) t ≡ true) (here : e .task .0 < s .tasks → s .here .0 < s .nodes) (most : e .task .0 < s .tasks → s .«held_count» ≤ s .tasks + 1) where
   abbrev Right : Effect → Type 0
   Right x = Fair n (s .tasks) (s .nodes) x
@@ -289,9 +283,9 @@ module _ (m : Machine) (long : Long m) (ok : inRange m ≡ true) where
   Reads r = Keeps (judgedOf (m .n) (m .p) (taskIn (m .tasks)) (seenOf m) r)
 
   -- whatever the entry's bytes, accepted or refused
-  pub entry-keeps : (e : List ℕ) → inRange (applyOf m e .machine) ≡ true
+  pub keeps-ranges : (e : List ℕ) → inRange (applyOf m e .machine) ≡ true
   unfolding applyOf decisionOf judgedOf carriedOf entryOf
-  entry-keeps e =
+  keeps-ranges e =
       by-test Keeps (not (inRange m)) _ _ (λ q. ok)
       (λ q. by-test Reads (ltb (length e) 10) _ _ (λ w. ok)
       (λ w. by-test Reads (not (marked entryMark e)) _ _ (λ x. ok)

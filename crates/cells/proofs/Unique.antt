@@ -1,8 +1,10 @@
 -- Any two results that a public function's contract allows are equal, and so is what a lent place holds when the function returns. Assumes nothing.
 use mathlib.Core.Path.{refl, sym, _∙_}
 use Rattle.contracts.specs.One.{One}
-use Rattle.cells.proofs.decided.Kinds as decided·k
-use Rattle.cells.proofs.decided.Reads as decided
+use Rattle.cells.proofs.seen.Kinds as seen·k
+use Rattle.cells.proofs.seen.Reads as seen
+use Rattle.cells.proofs.tables_ok.Kinds as tables-ok·k
+use Rattle.cells.proofs.tables_ok.Reads as tables-ok
 use Rattle.cells.proofs.write_cells.Kinds as write-cells·k
 use Rattle.cells.proofs.write_cells.Reads as write-cells
 use Rattle.cells.proofs.write_values.Kinds as write-values·k
@@ -32,8 +34,11 @@ use Rattle.cells.proofs.setup_number.Reads as setup-number
 use Rattle.cells.proofs.setup_bytes.Kinds as setup-bytes·k
 use Rattle.cells.proofs.setup_bytes.Reads as setup-bytes
 
-pub decided-one : One decided·k.ps decided·k.r decided.Pre decided.Post
-decided-one κs a z z′ ws ws′ p q q′ = (q ∙ sym q′, refl)
+pub seen-one : One seen·k.ps seen·k.r seen.Pre seen.Post
+seen-one κs a z z′ ws ws′ p q q′ = (q ∙ sym q′, refl)
+
+pub tables-ok-one : One tables-ok·k.ps tables-ok·k.r tables-ok.Pre tables-ok.Post
+tables-ok-one κs a z z′ ws ws′ p q q′ = (q ∙ sym q′, refl)
 
 pub write-cells-one : One write-cells·k.ps write-cells·k.r write-cells.Pre write-cells.Post
 write-cells-one κs a z z′ ws ws′ p q q′ = (refl, λ i. ((q ∙ sym q′) i, ws .1))

@@ -1,8 +1,8 @@
 -- An entry of a record that is in range, said without the range test: so a run that tests once may leave it out. Assumes nothing.
 use Prim.Native.Nat.{ℕ, _<_, min}
 use native.Mathlib.Omega.{arith}
-use mathlib.Core.Path.{_≡_, refl, sym, ap, _∙_}
-use mathlib.Core.Bool.{true, _&&_}
+use mathlib.Core.Path.{_≡_, sym, ap, _∙_}
+use mathlib.Core.Bool.{true}
 use mathlib.Core.List.{List}
 use lib.ListN.{getD}
 use Rattle.tallies.specs.Lists.{every}
@@ -11,7 +11,7 @@ use Rattle.tasks.specs.Records.{noTask}
 use Rattle.tables.specs.Tables.{taskOkIn}
 use Rattle.entries.specs.Entry.{entryAt, entryOf}
 use Rattle.entries.specs.Order.{orderOf}
-use Rattle.cells.specs.Types.{Machine, TaskNo, Task, Deed, Effect, Does, Refusal, Entry, Whole, Unread}
+use Rattle.cells.specs.Types.{Machine, Task, Deed, Effect, Does, Refusal, Whole, Unread}
 use Rattle.cells.specs.Machine.{seenOf, refusedBy, carriedOf, tablesOk, inRange}
 use Rattle.cells.specs.Apply.{judgedOf, decisionOf, applyOf}
 use Rattle.cells.proofs.Decide.{order-same, order-does, few-tasks, range-tests}

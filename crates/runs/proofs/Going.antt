@@ -1,11 +1,11 @@
 -- A run that has taken i entries takes one more, stops or ends. Assumes nothing.
 use Prim.Native.Nat.{ℕ, _+_, _-_, _*_, _≤_, _<_}
 use mathlib.Core.Path.{_≡_, refl, sym, ap, _∙_}
-use mathlib.Core.Bool.{Bool, true, false}
+use mathlib.Core.Bool.{true, false}
 use mathlib.Core.List.{List, [], _∷_}
 use native.Mathlib.Omega.{arith}
 use lib.ListN.{length, take, drop, set, length-set}
-use Rattle.answers.specs.Numbers.{refusalNumber, numberOf}
+use Rattle.answers.specs.Numbers.{numberOf}
 use Rattle.wire.specs.Bytes.{overlaid}
 use Rattle.cells.specs.Apply.{applyOf}
 use Rattle.runs.specs.Types.{Machine, Report}

@@ -9,13 +9,12 @@ use lib.Seq.{getD-set-same}
 use borrow.Author.Tests.{lt-ltb, le-ltb}
 use Rattle.answers.specs.declared.Refusal.the-variants.{WrongMark, TooShort}
 use Rattle.answers.specs.declared.Answer.the-variants.{Replied}
-use Rattle.answers.specs.Numbers.{replyNumber, refusalNumber, numberOf, valueOf}
+use Rattle.answers.specs.Numbers.{refusalNumber, numberOf, valueOf}
 use Rattle.answers.proofs.Numbers.{reply-at-most, refusal-above}
 use Rattle.wire.specs.Bytes.{entryMark, marked, wordAt, replyOf, overlaid}
 use Rattle.tasks.specs.Records.{noTask}
 use Rattle.steps.specs.Table.{answerOf}
-use Rattle.entries.specs.declared.EntryRead.the-variants.{Whole, Refused as Unread}
-use Rattle.entries.specs.Entry.{entryAt, entryOf}
+use Rattle.entries.specs.Entry.{entryOf}
 use Rattle.entries.specs.Order.{orderOf}
 use Rattle.entries.specs.Asking.{entryBy}
 use Rattle.entries.specs.Schedule.{entriesIn, entriesOf}
@@ -23,10 +22,10 @@ use Rattle.cells.specs.Machine.{seenOf, written, refusedBy, carriedOf, inRange}
 use Rattle.cells.specs.Apply.{applyOf}
 use Rattle.cells.specs.Free.{freeOf, freeValue}
 use Rattle.cells.proofs.Written.{Long, put-written, long-written}
-use Rattle.cells.proofs.Ranges.{entry-keeps}
+use Rattle.cells.proofs.Ranges.{keeps-ranges}
 use Rattle.cells.proofs.Untested.{unread-applied, order-applied, its-own}
 use Rattle.turns.specs.declared.Turned.{Turned}
-use Rattle.turns.specs.Turned.{turnedOf, Carries}
+use Rattle.turns.specs.Turned.{Carries}
 use Rattle.runs.specs.Types.{Machine, Report, Applied, Task, Refusal, Effect, Does, Refuses}
 use Rattle.runs.specs.Counts.{accepted, kindOf, taskOf}
 use Rattle.runs.specs.Run.{counted, reportOf, refusedAt, ranFrom, replyBytes, repliesFrom, freeNow, notesFrom, notedBy}
@@ -135,5 +134,5 @@ module _ {s o₀ f₀ : List ℕ} {m₀ : Machine} {o f : List ℕ} {m : Machine
                   record {
                     going = rw (bytes, noted, machine, report) (goes-on s o₀ f₀ m₀ o f m r i (g .going) more room (ap (λ (k : List ℕ). accepted (applyOf m k .answer)) (sym q) ∙ taken));
                     long = subst Long (sym after) (long-written m _ (z .task) (z .write) (g .long));
-                    sound = ap inRange machine ∙ entry-keeps m (g .long) (g .sound) (take 10 (drop (10 * i) s));
+                    sound = ap inRange machine ∙ keeps-ranges m (g .long) (g .sound) (take 10 (drop (10 * i) s));
                   }

@@ -3,8 +3,6 @@ use mathlib.Core.Path.{sym, _∙_}
 use Rattle.contracts.specs.One.{One}
 use Rattle.runs.proofs.run.Kinds as run·k
 use Rattle.runs.proofs.run.Reads as run
-use Rattle.runs.proofs.run_lent.Kinds as run-lent·k
-use Rattle.runs.proofs.run_lent.Reads as run-lent
 use Rattle.runs.proofs.run_free.Kinds as run-free·k
 use Rattle.runs.proofs.run_free.Reads as run-free
 
@@ -15,9 +13,3 @@ run-one κs a z z′ ws ws′ p q q′ = (q .0 ∙ sym (q′ .0), λ i. (ws .0, 
 -- and every byte of the buffer for the free nodes
 pub run-free-one : One run-free·k.ps run-free·k.r run-free.Pre run-free.Post
 run-free-one κs a z z′ ws ws′ p q q′ = (q .0 ∙ sym (q′ .0), λ i. (ws .0, (ws .1 .0, ((q .1 ∙ sym (q′ .1)) i, ((q .2 ∙ sym (q′ .2)) i, ws .1 .1 .1 .1)))))
-
--- the task records, the number of free nodes and the report; every place of the lent tables, every byte of both buffers
-pub run-lent-one : One run-lent·k.ps run-lent·k.r run-lent.Pre run-lent.Post
-run-lent-one κs a z z′ ws ws′ p q q′ =
-    let e = q .0 ∙ sym (q′ .0) in
-    (λ i. record { tasks = e i .machine .tasks; free = e i .machine .free; report = e i .report }, λ i. (ws .0, (ws .1 .0, (ws .1 .1 .0, (ws .1 .1 .1 .0, (e i .machine .cells, (e i .machine .values, (e i .machine .counts, (ws .1 .1 .1 .1 .1 .1 .1 .0, (ws .1 .1 .1 .1 .1 .1 .1 .1 .0, ((q .1 ∙ sym (q′ .1)) i, ((q .2 ∙ sym (q′ .2)) i, ws .1 .1 .1 .1 .1 .1 .1 .1 .1 .1 .1))))))))))))

@@ -28,6 +28,8 @@ use Rattle.tasks.proofs.Task.owning.Kinds as owning·k
 use Rattle.tasks.proofs.Task.owning.Reads as owning
 use Rattle.tasks.proofs.Task.probing.Kinds as probing·k
 use Rattle.tasks.proofs.Task.probing.Reads as probing
+use Rattle.tasks.proofs.Task.copied.Kinds as copied·k
+use Rattle.tasks.proofs.Task.copied.Reads as copied
 use Rattle.tasks.proofs.Task.in_range.Kinds as in-range·k
 use Rattle.tasks.proofs.Task.in_range.Reads as in-range
 use Rattle.tasks.proofs.begun.Kinds as begun·k
@@ -59,6 +61,9 @@ owning-one κs a z z′ ws ws′ p q q′ = (q ∙ sym q′, refl)
 
 pub probing-one : One probing·k.ps probing·k.r probing.Pre probing.Post
 probing-one κs a z z′ ws ws′ p q q′ = (q ∙ sym q′, refl)
+
+pub copied-one : One copied·k.ps copied·k.r copied.Pre copied.Post
+copied-one κs a z z′ ws ws′ p q q′ = (q ∙ sym q′, refl)
 
 pub in-range-one : One in-range·k.ps in-range·k.r in-range.Pre in-range.Post
 in-range-one κs a z z′ ws ws′ p q q′ = (q ∙ sym q′, refl)

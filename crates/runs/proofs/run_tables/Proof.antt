@@ -12,7 +12,7 @@ use Rattle.tasks.specs.Records.{noTask}
 use Rattle.tables.proofs.Laws.{length-mapped}
 use Rattle.entries.specs.Schedule.{entriesIn}
 use Rattle.cells.proofs.Written.{Long}
-use Rattle.runs.specs.Types.{Machine, Task}
+use Rattle.runs.specs.Types.{Machine}
 use Rattle.runs.specs.Lent.{madeOf}
 use Rattle.runs.proofs.Laws.{few-le}
 use Rattle.runs.proofs.Going.{starts, ends, fits}

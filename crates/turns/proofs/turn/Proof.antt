@@ -1,5 +1,5 @@
 -- `turn`: what is asked, done and written back. Assumes nothing.
-use mathlib.Core.Path.{refl, sym, _∙_}
+use mathlib.Core.Path.{refl, _∙_}
 use Rattle.entries.proofs.Asking.{asked-done}
 use Rattle.cells.specs.Machine.{seenIn}
 use borrow.Author.Needs.{needs}
