@@ -29,23 +29,23 @@ use Rattle.entries.specs.Order.{linkedTo, loadOf, storeOf, linkedCallOf, callOf
 use Rattle.cells.specs.Types.{Machine, TaskNo, Task, Seen, Write, Nothing, Point, Count, Value, Effect, Does, Refuses, Entry, EntryRead, Decision}
 use Rattle.cells.specs.Machine.{seenOf, cellsAfter, countsAfter, freeBy, leftBy, carriedOf, poolOk, inRange}
 use Rattle.cells.specs.Apply.{judgedOf, decisionOf, carriedBy, applyOf}
-use Rattle.cells.proofs.Written.{Long}
+use Rattle.cells.proofs.Written.{Long, long-written}
 
--- the fields of a record in range for n cells and k nodes, whatever its phase
+-- the fields of a task's record in range for n cells and k nodes, but for its phase
 pub record Inside (n k : ℕ) (t : Task) : Type 0 where
   pub cell : t .cell .0 < n
   pub held : t .held .0 < k
   pub own : t .own .0 < k
   pub cursor : t .cursor .0 < k
 
-pub fields-ok : (n k : ℕ) (t : Task) → taskOk n k t ≡ true → Inside n k t
+pub fields-ok : (n k : ℕ) (t : Task) → taskOk n k t ≡ true → (isPhase (t .phase) ≡ true) × Inside n k t
 unfolding taskOk
 fields-ok n k t h =
     let a = both (isPhase (t .phase) && ltb (t .cell .0) n && ltb (t .held .0) k && ltb (t .own .0) k) (ltb (t .cursor .0) k) h in
     let b = both (isPhase (t .phase) && ltb (t .cell .0) n && ltb (t .held .0) k) (ltb (t .own .0) k) (a .0) in
     let c = both (isPhase (t .phase) && ltb (t .cell .0) n) (ltb (t .held .0) k) (b .0) in
     let d = both (isPhase (t .phase)) (ltb (t .cell .0) n) (c .0) in
-    record { cell = ltb-true _ _ (d .1); held = ltb-true _ _ (c .1); own = ltb-true _ _ (b .1); cursor = ltb-true _ _ (a .1) }
+    (d .0, record { cell = ltb-true _ _ (d .1); held = ltb-true _ _ (c .1); own = ltb-true _ _ (b .1); cursor = ltb-true _ _ (a .1) })
 
 pub ok-fields : (n k : ℕ) (t : Task) → isPhase (t .phase) ≡ true → Inside n k t → taskOk n k t ≡ true
 unfolding taskOk
@@ -171,7 +171,7 @@ module _ (n : ℕ) (e : Entry) (t : Task) (s : Seen) (i : e .task .0 < s .tasks 
       (λ b. by-test Right (nonzero e) _ _ (λ c. tt)
       (λ c. by-test Right (outside n e) _ _ (λ d. tt)
       (λ d. let ok = i (leb-false _ _ a) in
-      let f = fields-ok n (s .nodes) t ok in
+      let f = fields-ok n (s .nodes) t ok .1 in
       by-test Right (eqb (e .kind) 0) _ _ (λ k. step-fair n t s f (here (leb-false _ _ a)) (most (leb-false _ _ a)))
       (λ k0. by-test Right (eqb (e .kind) 1) _ _
       (λ k. by-test Right (not (eqb (t .phase) 0)) _ _ (λ w. tt)
@@ -216,13 +216,13 @@ module _ (m : Machine) (long : Long m) (ok : inRange m ≡ true) where
       let d = both (sizesOk (m .n) (m .p) (m .k)) (leb (m .free) (m .k)) (c .0) in
       (d .0, leb-true _ _ (d .1), c .1, b .1, a .1)
 
-  pointed : (x : ℕ) → x < m .n → getD (m .cells) x 0 < m .k
+  pub pointed : (x : ℕ) → x < m .n → getD (m .cells) x 0 < m .k
   pointed x h = ltb-true _ _ (every-at (cellOk (m .cells) (m .k)) (m .n) x (tests .2) h)
 
   counted : (v : ℕ) → v < m .k → getD (m .counts) v 0 ≤ m .p + 1
   counted v h = leb-true _ _ (every-at (countOk (m .counts) (m .p)) (m .k) v (tests .3) h)
 
-  recorded : (q : ℕ) → q < m .p → taskOk (m .n) (m .k) (getD (m .tasks) q noTask) ≡ true
+  pub recorded : (q : ℕ) → q < m .p → taskOk (m .n) (m .k) (getD (m .tasks) q noTask) ≡ true
   recorded q h = every-at (taskOkIn (m .tasks) (m .n) (m .k)) (m .p) q (tests .4) h
 
   abbrev Below : ℕ → Type 0
@@ -234,7 +234,7 @@ module _ (m : Machine) (long : Long m) (ok : inRange m ≡ true) where
   abbrev Sized : Task → Type 0
   Sized t = taskOk (m .n) (m .k) t ≡ true
 
-  sizes : (0 < m .n) × (m .n ≤ 64) × (0 < m .p) × (m .p ≤ 16) × (m .n + 2 * m .p ≤ m .k) × (m .k ≤ 128)
+  pub sizes : (0 < m .n) × (m .n ≤ 64) × (0 < m .p) × (m .p ≤ 16) × (m .n + 2 * m .p ≤ m .k) × (m .k ≤ 128)
   sizes = sizes-bounds (m .n) (m .p) (m .k) (tests .0)
 
   cells-left : (w : Write) → Fit (m .p) (m .k) w → (x : ℕ) → x < m .n → Below (getD (cellsAfter m w) x 0)
@@ -273,20 +273,32 @@ module _ (m : Machine) (long : Long m) (ok : inRange m ≡ true) where
   entry-fair : (e : Entry) → Fair (m .n) (m .p) (m .k) (ordered e)
   entry-fair e =
       let t = taskIn (m .tasks) (e .task) in
-      let in-t : e .task .0 < m .p → Inside (m .n) (m .k) t = λ h. fields-ok (m .n) (m .k) t (recorded (e .task .0) h) in
+      let in-t : e .task .0 < m .p → Inside (m .n) (m .k) t = λ h. fields-ok (m .n) (m .k) t (recorded (e .task .0) h) .1 in
       order-fair (m .n) e t (seenOf m t) (λ h. recorded (e .task .0) h) (λ h. pointed (t .cell .0) (in-t h .cell)) (λ h. counted (t .held .0) (in-t h .held))
 
-  abbrev Keeps : Decision → Type 0
-  Keeps d = inRange (carriedBy m d .machine) ≡ true
+  -- what holds of m, and of all that an effect within the ranges may leave of it, holds after every entry, whatever its bytes, accepted or refused
+  module _ (P : Machine → Type 0) (as-it-was : P m) (carried : (q : TaskNo) (x : Effect) → Fair (m .n) (m .p) (m .k) x → P (leftBy m q x)) where
+    abbrev Keeps : Decision → Type 0
+    Keeps d = P (carriedBy m d .machine)
 
-  abbrev Reads : EntryRead → Type 0
-  Reads r = Keeps (judgedOf (m .n) (m .p) (taskIn (m .tasks)) (seenOf m) r)
+    abbrev Reads : EntryRead → Type 0
+    Reads r = Keeps (judgedOf (m .n) (m .p) (taskIn (m .tasks)) (seenOf m) r)
 
-  -- whatever the entry's bytes, accepted or refused
+    after-entry : (e : List ℕ) → P (applyOf m e .machine)
+    unfolding applyOf decisionOf judgedOf carriedOf entryOf
+    after-entry e =
+        by-test Keeps (not (inRange m)) _ _ (λ q. as-it-was)
+        (λ q. by-test Reads (ltb (length e) 10) _ _ (λ w. as-it-was)
+        (λ w. by-test Reads (not (marked entryMark e)) _ _ (λ x. as-it-was)
+        (λ x. carried (record { 0 = getD e 2 0 }) (ordered (entryAt e)) (entry-fair (entryAt e)))))
+
   pub keeps-ranges : (e : List ℕ) → inRange (applyOf m e .machine) ≡ true
-  unfolding applyOf decisionOf judgedOf carriedOf entryOf
-  keeps-ranges e =
-      by-test Keeps (not (inRange m)) _ _ (λ q. ok)
-      (λ q. by-test Reads (ltb (length e) 10) _ _ (λ w. ok)
-      (λ w. by-test Reads (not (marked entryMark e)) _ _ (λ x. ok)
-      (λ x. left (record { 0 = getD e 2 0 }) (ordered (entryAt e)) (entry-fair (entryAt e)))))
+  keeps-ranges = after-entry (λ (z : Machine). inRange z ≡ true) ok left
+
+  -- and the arrays' lengths
+  pub keeps-lengths : (e : List ℕ) → Long (applyOf m e .machine)
+  keeps-lengths = after-entry Long long long-left
+    where
+      long-left : (q : TaskNo) (x : Effect) → Fair (m .n) (m .p) (m .k) x → Long (leftBy m q x)
+      long-left q (Refuses r) f = long
+      long-left q (Does d) f = long-written m q (d .task) (d .write) long
