@@ -1,5 +1,5 @@
--- No answer has the number 18, and one alone has 22; replies have small numbers, refusals larger ones. Assumes nothing.
-use Prim.Native.Nat.{_≤_, _<_}
+-- No answer has the number 18, and one alone has 22. Assumes nothing.
+use Prim.Native.Nat.{_≤_}
 use native.Mathlib.Omega.{arith}
 use mathlib.Core.Path.{refl, ap}
 use mathlib.Core.Logic.{_≢_}
@@ -7,7 +7,7 @@ use Rattle.answers.specs.Types.{Reply, Moved, Loaded, Took, Lost, Releas
 use Rattle.answers.specs.Numbers.{replyNumber, refusalNumber, numberOf}
 
 -- replies have the numbers up to 6
-pub reply-at-most : (r : Reply) → replyNumber r ≤ 6
+reply-at-most : (r : Reply) → replyNumber r ≤ 6
 reply-at-most Moved = omega arith
 reply-at-most (Loaded v) = omega arith
 reply-at-most Took = omega arith
@@ -15,24 +15,6 @@ reply-at-most Lost = omega arith
 reply-at-most Released = omega arith
 reply-at-most Good = omega arith
 reply-at-most Gone = omega arith
-
--- refusals have numbers above 10
-pub refusal-above : (r : Refusal) → 10 < refusalNumber r
-refusal-above Sizes = omega arith
-refusal-above NoTask = omega arith
-refusal-above NoKind = omega arith
-refusal-above NoCell = omega arith
-refusal-above NotZero = omega arith
-refusal-above NotNow = omega arith
-refusal-above NoStep = omega arith
-refusal-above WrongMark = omega arith
-refusal-above TooShort = omega arith
-refusal-above NoRoom = omega arith
-refusal-above Damaged = omega arith
-refusal-above TooLong = omega arith
-refusal-above NotALine = omega arith
-refusal-above TooLarge = omega arith
-refusal-above OutputShort = omega arith
 
 refusal-number-is : (r : Refusal) → (refusalNumber r ≢ 18) × (r ≢ Damaged → refusalNumber r ≢ 22)
 refusal-number-is Sizes = omega arith

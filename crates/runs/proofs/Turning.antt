@@ -1,7 +1,7 @@
 -- One entry over lent tables is the same entry of the record that they come to: the run takes it, or stops there. Assumes nothing.
 use Prim.Native.Nat.{ℕ, _+_, _-_, _*_, _≤_, _<_, min}
 use mathlib.Core.Path.{_≡_, refl, sym, ap, _∙_, subst}
-use mathlib.Core.Bool.{true, false}
+use mathlib.Core.Bool.{true, false, false≢true}
 use mathlib.Core.List.{List}
 use native.Mathlib.Omega.{arith}
 use lib.ListN.{length, getD, take, drop, set, length-take, length-drop}
@@ -10,7 +10,6 @@ use borrow.Author.Tests.{lt-ltb, le-ltb}
 use Rattle.answers.specs.declared.Refusal.the-variants.{WrongMark, TooShort}
 use Rattle.answers.specs.declared.Answer.the-variants.{Replied}
 use Rattle.answers.specs.Numbers.{refusalNumber, numberOf, valueOf}
-use Rattle.answers.proofs.Numbers.{reply-at-most, refusal-above}
 use Rattle.wire.specs.Bytes.{entryMark, marked, wordAt, replyOf, overlaid}
 use Rattle.tasks.specs.Records.{noTask}
 use Rattle.steps.specs.Table.{answerOf}
@@ -88,29 +87,32 @@ module _ {s o₀ f₀ : List ℕ} {m₀ : Machine} {o f : List ℕ} {m : Machine
             number-is : number ≡ numberOf (answerOf e)
             number-is = numbered ∙ ap (λ (z : Turned). numberOf (z .answer)) (turned .0) ∙ ap (λ (z : Effect). numberOf (answerOf z)) is
 
+            accepted-is : accepted (d .answer) ≡ accepted (answerOf e)
+            accepted-is = ap (λ (z : Turned). accepted (z .answer)) (turned .0) ∙ ap (λ (z : Effect). accepted (answerOf z)) is
+
             wrote-is : o′ ≡ overlaid o (8 * i) (replyOf (numberOf (answerOf e)) (getD x 2 0) (valueOf (answerOf e)))
             wrote-is =
                 let value-is : v ≡ valueOf (answerOf e) = valued ∙ ap (λ (z : Turned). valueOf (z .answer)) (turned .0) ∙ ap (λ (z : Effect). valueOf (answerOf z)) is in
                 wrote ∙ rw (number-is, value-is)
 
-          pub stopped : 10 < number → (r′ : Report) → r′ ≡ refusedAt number r → (f′ : List ℕ) → f′ ≡ set f i (freeNow m) → Over s o₀ f₀ m₀ o′ f′ (madeOf (m .n) (m .p) (m .k) (m .free) cs vs ns (m .tasks)) r′
+          pub stopped : accepted (d .answer) ≡ false → (r′ : Report) → r′ ≡ refusedAt number r → (f′ : List ℕ) → f′ ≡ set f i (freeNow m) → Over s o₀ f₀ m₀ o′ f′ (madeOf (m .n) (m .p) (m .k) (m .free) cs vs ns (m .tasks)) r′
           unfolding carriedOf
-          stopped big r′ hr f′ hf = by due refl
+          stopped refuses r′ hr f′ hf = by due refl
             where
               by : (e : Effect) → due ≡ e → Over s o₀ f₀ m₀ o′ f′ (madeOf (m .n) (m .p) (m .k) (m .free) cs vs ns (m .tasks)) r′
               by (Refuses z) is =
                   let w = refused (getD x 2 0) z (applied ∙ ap (carriedOf m (record { 0 = getD x 2 0 })) is) o′ (wrote-is (Refuses z) is) r′ (hr ∙ ap (λ (k : ℕ). refusedAt k r) (number-is (Refuses z) is)) f′ hf in
                   let same = rw is at turned in
                   (rw (same .1, same .2, same .3) (w .0), w .1, w .2)
-              by (Does z) is = absurd (omega (arith, reply-at-most (z .reply), number-is (Does z) is, big))
+              by (Does z) is = absurd (false≢true (sym refuses ∙ accepted-is (Does z) is))
 
-          pub went-on : number ≤ 10 → (j : ℕ) → j ≡ min (getD x 2 0) 15 → (u : Task) → u ≡ d .task → (r′ : Report) → r′ ≡ countedBy r (getD x 3 0) (t .phase) (u .phase) → (f′ : List ℕ) → f′ ≡ set f i (freeValue (freeOf (m .n) (m .p) (m .k) (d .free)))
+          pub went-on : accepted (d .answer) ≡ true → (j : ℕ) → j ≡ min (getD x 2 0) 15 → (u : Task) → u ≡ d .task → (r′ : Report) → r′ ≡ countedBy r (getD x 3 0) (t .phase) (u .phase) → (f′ : List ℕ) → f′ ≡ set f i (freeValue (freeOf (m .n) (m .p) (m .k) (d .free)))
               → Turning s o₀ f₀ m₀ o′ f′ (madeOf (m .n) (m .p) (m .k) (d .free) cs vs ns (set (m .tasks) j u)) r′ (i + 1)
           unfolding carriedOf
-          went-on small j hj u hu r′ hr f′ hf = by due refl
+          went-on accepts j hj u hu r′ hr f′ hf = by due refl
             where
               by : (e : Effect) → due ≡ e → Turning s o₀ f₀ m₀ o′ f′ (madeOf (m .n) (m .p) (m .k) (d .free) cs vs ns (set (m .tasks) j u)) r′ (i + 1)
-              by (Refuses z) is = absurd (omega (arith, refusal-above z, number-is (Refuses z) is, small))
+              by (Refuses z) is = absurd (false≢true (sym (accepted-is (Refuses z) is) ∙ accepts))
               by (Does z) is =
                   let same = rw is at turned in
                   let done : applyOf m x ≡ record { machine = written m (record { 0 = getD x 2 0 }) (z .task) (z .write); answer = Replied (z .reply); task = getD x 2 0 } = applied ∙ ap (carriedOf m (record { 0 = getD x 2 0 })) is in

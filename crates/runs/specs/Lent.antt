@@ -3,7 +3,7 @@ use Prim.Native.Nat.{ℕ}
 use mathlib.Core.Path.{_≡_}
 use mathlib.Core.List.{List}
 use lib.ListN.{length}
-use Rattle.runs.specs.Types.{Task, Machine, Ran, Left}
+use Rattle.runs.specs.Types.{Task, Machine, Report, Ran, Left}
 
 -- the tables have their lengths, as their types say
 pub record Lengths (cells values counts : List ℕ) : Type 0 where
@@ -14,6 +14,10 @@ pub record Lengths (cells values counts : List ℕ) : Type 0 where
 abbrev pub madeOf : ℕ → ℕ → ℕ → ℕ → List ℕ → List ℕ → List ℕ → List Task → Machine
 madeOf n p k free cells values counts tasks = record { n = n; p = p; k = k; free = free; cells = cells; values = values; counts = counts; tasks = tasks }
 
--- what a run left, beside the tables at its end
+-- what a run leaves beside the tables
+abbrev pub leftBy : List Task → ℕ → Report → Left
+leftBy tasks free report = record { tasks = tasks; free = free; report = report }
+
+-- the record and the report that it and the tables come to at its end
 abbrev pub leftRan : ℕ → ℕ → ℕ → List ℕ → List ℕ → List ℕ → Left → Ran
 leftRan n p k cells values counts l = record { machine = madeOf n p k (l .free) cells values counts (l .tasks); report = l .report }

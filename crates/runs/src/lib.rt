@@ -1,4 +1,6 @@
 // A whole schedule from bytes over a machine record: one reply an entry, the six numbers, and how many nodes are free after each entry.
+use answers::Answer;
+use answers::Refusal;
 use cells::Machine;
 use tasks::CellNo;
 use tasks::Task;
@@ -6,13 +8,14 @@ use tasks::TaskNo;
 ghost use mathlib.Core.Path.{_≡_};
 ghost use Prim.Native.Nat.{_+_, _*_, _≤_};
 ghost use lib.ListN.{length, set};
+ghost use Rattle.answers.specs.Numbers.{refusalNumber};
 ghost use Rattle.wire.specs.Bytes.{replyOf, overlaid};
 ghost use mathlib.Core.Bool.{true};
 ghost use Rattle.cells.specs.Machine.{inRange};
 ghost use Rattle.cells.specs.Free.{freeOf, freeValue};
 ghost use Rattle.entries.specs.Schedule.{entriesIn, entriesOf};
 ghost use Rattle.runs.specs.Run.{repliesFrom, notesFrom, notedBy, reportOf, refusedAt, ranFrom, ranOf, bufferOf, notedOf};
-ghost use Rattle.runs.specs.Lent.{Lengths, madeOf, leftRan};
+ghost use Rattle.runs.specs.Lent.{Lengths, madeOf, leftBy, leftRan};
 ghost use Rattle.runs.specs.OneEntry.{loadBegun, loadStep, wentOf, countedBy, Few};
 
 // Entries accepted, the refusal or 0, loads begun, load steps, turned-back checks, swaps that took: all for one run.
@@ -121,13 +124,17 @@ struct Left {
     pub report: Report,
 }
 
-// The entry with this refusal ends the run.
-fn ended(r: Report, refusal: u8) -> Report
-    ensures { λ q. ⌜ q ≡ refusedAt refusal r ⌝ }
+// The run ends with this refusal.
+fn stop(tasks: [Task; 16], free: u8, r: Report, refusal: u8) -> Left
+    ensures { λ q. ⌜ q ≡ leftBy tasks free (refusedAt refusal r) ⌝ }
 {
     let mut last = r;
     last.refusal = refusal;
-    last
+    Left {
+        tasks: tasks,
+        free: free,
+        report: last,
+    }
 }
 
 // The entries one after the other, up to the first refused one, over lent tables. They are in range, and each entry keeps them so.
@@ -156,25 +163,17 @@ fn run_tables(
     while i < count {
         let at = 10 * i;
         if len - at < 10 {
-            reply(out, i, 20, 0, 0);
+            let number = answers::refusal_number(Refusal::TooShort);
+            reply(out, i, number, 0, 0);
             note(free_nodes, i, n, p, k, left);
-            let last = ended(report, 20);
-            return Left {
-                tasks: tasks,
-                free: left,
-                report: last,
-            };
+            return stop(tasks, left, report, number);
         }
         let e = &s[at..at + 10];
         if !wire::starts_with(e, wire::ENTRY) {
-            reply(out, i, 19, 0, 0);
+            let number = answers::refusal_number(Refusal::WrongMark);
+            reply(out, i, number, 0, 0);
             note(free_nodes, i, n, p, k, left);
-            let last = ended(report, 19);
-            return Left {
-                tasks: tasks,
-                free: left,
-                report: last,
-            };
+            return stop(tasks, left, report, number);
         }
         let q = e[2];
         let kind = e[3];
@@ -202,29 +201,35 @@ fn run_tables(
         let a = d.answer;
         let number = answers::number(a);
         reply(out, i, number, q, answers::value(a));
-        if 10 < number {
-            note(free_nodes, i, n, p, k, left);
-            let last = ended(report, number);
-            return Left {
-                tasks: tasks,
-                free: left,
-                report: last,
-            };
+        match a {
+            Answer::Refused(_) => {
+                note(free_nodes, i, n, p, k, left);
+                return stop(tasks, left, report, number);
+            }
+            Answer::Replied(_) => {
+                let next = d.task;
+                let u = next.copied();
+                tasks[j] = u;
+                // asked of the tables that this entry leaves
+                note(free_nodes, i, n, p, k, d.free);
+                left = d.free;
+                report = counted(report, kind, t.phase, u.phase);
+                i += 1;
+            }
         }
-        let next = d.task;
-        let u = next.copied();
-        tasks[j] = u;
-        // asked of the tables that this entry leaves
-        note(free_nodes, i, n, p, k, d.free);
-        left = d.free;
-        report = counted(report, kind, t.phase, u.phase);
-        i += 1;
     }
     Left {
         tasks: tasks,
         free: left,
         report: report,
     }
+}
+
+// No entry is tried.
+fn untried(ts: [Task; 16], free: u8, r: Refusal) -> Left
+    ensures { λ q. ⌜ q ≡ leftBy ts free (reportOf (refusalNumber r)) ⌝ }
+{
+    stop(ts, free, no_report(0), answers::refusal_number(r))
 }
 
 // A run over lent tables: 22 by ranges, 23 and 21 come before any entry, in that order. Each entry tried leaves its number of free nodes, while there is room.
@@ -245,33 +250,17 @@ fn run_lent(
     ensures { λ r. ⌜ (leftRan n p k (now (cells .exit)) (now (values .exit)) (now (counts .exit)) r ≡ ranOf (madeOf n p k free (now (cells .entry)) (now (values .entry)) (now (counts .entry)) ts) (now (s .entry)) (length (now (out .entry)))) × (now (out .exit) ≡ bufferOf (madeOf n p k free (now (cells .entry)) (now (values .entry)) (now (counts .entry)) ts) (now (s .entry)) (now (out .entry))) × (now («free_nodes» .exit) ≡ notedOf (madeOf n p k free (now (cells .entry)) (now (values .entry)) (now (counts .entry)) ts) (now (s .entry)) (length (now (out .entry))) (now («free_nodes» .entry))) ⌝ }
 {
     if !cells::tables_ok(n, p, k, free, cells, counts) {
-        return Left {
-            tasks: ts,
-            free: free,
-            report: no_report(22),
-        };
+        return untried(ts, free, Refusal::Damaged);
     }
     if !tables::tasks_ok(ts, n, p, k) {
-        return Left {
-            tasks: ts,
-            free: free,
-            report: no_report(22),
-        };
+        return untried(ts, free, Refusal::Damaged);
     }
     let len = s.len();
     if 65530 < len {
-        return Left {
-            tasks: ts,
-            free: free,
-            report: no_report(23),
-        };
+        return untried(ts, free, Refusal::TooLong);
     }
     if out.len() < 8 * ((len + 9) / 10) {
-        return Left {
-            tasks: ts,
-            free: free,
-            report: no_report(21),
-        };
+        return untried(ts, free, Refusal::NoRoom);
     }
     run_tables(n, p, k, free, cells, values, counts, ts, s, out, free_nodes)
 }

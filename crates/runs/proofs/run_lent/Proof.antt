@@ -38,36 +38,36 @@ module _ (m : Machine) where
 tables-ok-requires : tie.Need-tables-ok-requires
 tables-ok-requires c κs = search needs
 
-no-report-requires : tie.Need-no-report-requires
-no-report-requires c κs = search needs
+untried-requires : tie.Need-untried-requires
+untried-requires c κs = search needs
 
 returns : tie.Need-returns
 unfolding ranOf repliesOf bufferOf notedOf
 returns c = let m = from (c .before .before .before .before .before .before .before .before .before .before) in
     let damaged = tables-out m (sym (c .before .before .tables-ok .ensures) ∙ not-true _ (c .before .if1 .taken)) in
-    (rw (c .no-report .ensures, damaged), rw damaged, rw damaged)
+    (rw (c .untried .ensures, damaged), rw damaged, rw damaged)
 
 tasks-ok-requires : tie.Need-tasks-ok-requires
 tasks-ok-requires c κs = search needs
 
-no-report-requires-2 : tie.Need-no-report-requires-2
-no-report-requires-2 c κs = search needs
+untried-requires-2 : tie.Need-untried-requires-2
+untried-requires-2 c κs = search needs
 
 returns-2 : tie.Need-returns-2
 unfolding ranOf repliesOf bufferOf notedOf
 returns-2 c = let m = from (c .before .before .before .before .before .before .before .before .before .before .before .before) in
     let damaged = by-tasks m (sym (c .before .before .before .before .tables-ok .ensures) ∙ not-false _ (c .before .before .before .if1 .left)) false (sym (c .before .before .tasks-ok .ensures) ∙ not-true _ (c .before .if2 .taken)) in
-    (rw (c .no-report2 .ensures, damaged), rw damaged, rw damaged)
+    (rw (c .untried2 .ensures, damaged), rw damaged, rw damaged)
 
-no-report-requires-3 : tie.Need-no-report-requires-3
-no-report-requires-3 c κs = search needs
+untried-requires-3 : tie.Need-untried-requires-3
+untried-requires-3 c κs = search needs
 
 returns-3 : tie.Need-returns-3
 unfolding ranOf repliesOf bufferOf notedOf
 returns-3 c = let m = from (c .before .before .before .before .before .before .before .before .before .before .before .before .before) in
     let sound = by-tasks m (sym (c .before .before .before .before .before .tables-ok .ensures) ∙ not-false _ (c .before .before .before .before .if1 .left)) true (sym (c .before .before .before .tasks-ok .ensures) ∙ not-false _ (c .before .before .if2 .left)) in
     let long = lt-leb _ 65530 (c .before .if3 .taken) in
-    (rw (c .no-report3 .ensures, sound, lt-ltb 65530 _ (c .before .if3 .taken)), rw (sound, long), rw (sound, long))
+    (rw (c .untried3 .ensures, sound, lt-ltb 65530 _ (c .before .if3 .taken)), rw (sound, long), rw (sound, long))
 
 add-if4 : tie.Need-add-if4
 add-if4 c = search needs
@@ -75,8 +75,8 @@ add-if4 c = search needs
 mul-if4 : tie.Need-mul-if4
 mul-if4 c = search needs
 
-no-report-requires-4 : tie.Need-no-report-requires-4
-no-report-requires-4 c κs = search needs
+untried-requires-4 : tie.Need-untried-requires-4
+untried-requires-4 c κs = search needs
 
 returns-4 : tie.Need-returns-4
 unfolding ranOf repliesOf bufferOf notedOf
@@ -85,7 +85,7 @@ returns-4 c = let m = from (c .before .before .before .before .before .before .b
     let short : length (c .before .before .before .before .before .before .before .before .before .before .before .before .before .before .args .out .now) < 8 * entriesIn (c .before .before .before .before .before .before .before .before .before .before .before .before .before .before .args .s .now) = c .before .if4 .taken in
     let fits = le-leb _ 65530 (c .before .before .if3 .left) in
     let more = lt-leb _ _ short in
-    (rw (c .no-report4 .ensures, sound, le-ltb 65530 _ (c .before .before .if3 .left), lt-ltb _ _ short), rw (sound, fits, more), rw (sound, fits, more))
+    (rw (c .untried4 .ensures, sound, le-ltb 65530 _ (c .before .before .if3 .left), lt-ltb _ _ short), rw (sound, fits, more), rw (sound, fits, more))
 
 run-tables-requires : tie.Need-run-tables-requires
 run-tables-requires c κs = let m = from (c .before .before .before .before .before .before .before .before .before .before .before .before .before .before .before .before .before .before) in
@@ -112,16 +112,16 @@ run-lent-spec =
     tie.close
     (tie.spec
     tables-ok-requires
-    no-report-requires
+    untried-requires
     returns
     tasks-ok-requires
-    no-report-requires-2
+    untried-requires-2
     returns-2
-    no-report-requires-3
+    untried-requires-3
     returns-3
     add-if4
     mul-if4
-    no-report-requires-4
+    untried-requires-4
     returns-4
     run-tables-requires
     same-length

@@ -7,12 +7,14 @@ use native.Mathlib.Omega.{arith}
 use lib.ListN.{length, getD, take, drop, length-take, length-drop}
 use borrow.Author.Needs.{needs}
 use borrow.Author.Tests.{not-true, not-false}
-use Rattle.wire.specs.Bytes.{entryMark, marked, wordAt}
+use Rattle.wire.specs.Bytes.{entryMark, marked, wordAt, replyOf, overlaid}
 use Rattle.tasks.specs.Records.{noTask}
 use Rattle.tables.proofs.Laws.{length-mapped}
 use Rattle.entries.specs.Schedule.{entriesIn}
 use Rattle.cells.proofs.Written.{Long}
 use Rattle.runs.specs.Types.{Machine}
+use Rattle.runs.specs.Counts.{accepted}
+use Rattle.runs.specs.Run.{refusedAt}
 use Rattle.runs.specs.Lent.{madeOf}
 use Rattle.runs.proofs.Laws.{few-le}
 use Rattle.runs.proofs.Going.{starts, ends, fits}
@@ -103,24 +105,27 @@ mul-at c = omega (arith, begun c .pre .0)
 sub-if1 : tie.Need-sub-if1 Inv-loop μ-loop
 sub-if1 c = omega (arith, begun c .pre .0, due c)
 
+refusal-number-requires : tie.Need-refusal-number-requires Inv-loop μ-loop
+refusal-number-requires c κs = search needs
+
 reply-requires : tie.Need-reply-requires Inv-loop μ-loop
-reply-requires c κs = room (c .before .before)
+reply-requires c κs = room (c .before .before .before)
 
 note-requires : tie.Need-note-requires Inv-loop μ-loop
 note-requires c κs = search needs
 
-ended-requires : tie.Need-ended-requires Inv-loop μ-loop
-ended-requires c κs = search needs
+stop-requires : tie.Need-stop-requires Inv-loop μ-loop
+stop-requires c κs = search needs
 
 same-length : tie.Need-same-length Inv-loop μ-loop
-same-length c = c .before .before .before .before .before .before .before .reply .kept .0 ∙ turning (c .before .before .before .before .before .before .before .before .before .before) .going .long
+same-length c = c .before .before .before .before .before .before .before .reply .kept .0 ∙ turning (c .before .before .before .before .before .before .before .before .before .before .before) .going .long
 
 same-length-2 : tie.Need-same-length-2 Inv-loop μ-loop
-same-length-2 c = c .before .before .before .note .kept .0 ∙ turning (c .before .before .before .before .before .before .before .before .before .before) .going .free-long
+same-length-2 c = c .before .before .before .note .kept .0 ∙ turning (c .before .before .before .before .before .before .before .before .before .before .before) .going .free-long
 
 returns : tie.Need-returns Inv-loop μ-loop
-returns c = let b = c .before .before .before .before .before .before .before .before .before .before in
-    short (turning b) (due b) (begun b .pre .1) _ refl (c .before .before .before .before .before .before .before .before .before .if1 .taken) _ (c .before .before .before .before .before .before .before .reply .ensures) _ (c .ended .ensures) _ (c .before .before .before .note .ensures)
+returns c = let b = c .before .before .before .before .before .before .before .before .before .before .before in
+    rw (c .stop .ensures) (short (turning b) (due b) (begun b .pre .1) _ refl (c .before .before .before .before .before .before .before .before .before .before .if1 .taken) _ (c .before .before .before .before .before .before .before .reply .ensures ∙ ap (λ (z : ℕ). overlaid (c .before .before .before .before .before .before .before .before .before .before .before .before .loop .out) (8 * i b) (replyOf z 0 0)) (c .before .before .before .before .before .before .before .before .before .refusal-number .ensures)) _ (ap (λ (z : ℕ). refusedAt z (b .before .loop .report)) (c .before .before .before .before .before .before .before .before .before .refusal-number .ensures)) _ (c .before .before .before .note .ensures))
 
 add-e : tie.Need-add-e Inv-loop μ-loop
 add-e c = omega (arith, begun (c .before) .pre .0, due (c .before))
@@ -137,24 +142,27 @@ part-e-end c = omega (arith, begun (c .before) .pre .0, due (c .before), c .if1 
 starts-with-requires : tie.Need-starts-with-requires Inv-loop μ-loop
 starts-with-requires c κs = search needs
 
+refusal-number-requires-2 : tie.Need-refusal-number-requires-2 Inv-loop μ-loop
+refusal-number-requires-2 c κs = search needs
+
 reply-requires-2 : tie.Need-reply-requires-2 Inv-loop μ-loop
-reply-requires-2 c κs = room (c .before .before .before .before .before)
+reply-requires-2 c κs = room (c .before .before .before .before .before .before)
 
 note-requires-2 : tie.Need-note-requires-2 Inv-loop μ-loop
 note-requires-2 c κs = search needs
 
-ended-requires-2 : tie.Need-ended-requires-2 Inv-loop μ-loop
-ended-requires-2 c κs = search needs
+stop-requires-2 : tie.Need-stop-requires-2 Inv-loop μ-loop
+stop-requires-2 c κs = search needs
 
 same-length-3 : tie.Need-same-length-3 Inv-loop μ-loop
-same-length-3 c = c .before .before .before .before .before .before .before .reply2 .kept .0 ∙ turning (c .before .before .before .before .before .before .before .before .before .before .before .before .before) .going .long
+same-length-3 c = c .before .before .before .before .before .before .before .reply2 .kept .0 ∙ turning (c .before .before .before .before .before .before .before .before .before .before .before .before .before .before) .going .long
 
 same-length-4 : tie.Need-same-length-4 Inv-loop μ-loop
-same-length-4 c = c .before .before .before .note2 .kept .0 ∙ turning (c .before .before .before .before .before .before .before .before .before .before .before .before .before) .going .free-long
+same-length-4 c = c .before .before .before .note2 .kept .0 ∙ turning (c .before .before .before .before .before .before .before .before .before .before .before .before .before .before) .going .free-long
 
 returns-2 : tie.Need-returns-2 Inv-loop μ-loop
-returns-2 c = let b = c .before .before .before .before .before .before .before .before .before .before .before .before .before in
-    unmarked (turning b) (due b) (begun b .pre .1) _ (next b) (c .before .before .before .before .before .before .before .before .before .before .before .before .if1 .left) (sym (c .before .before .before .before .before .before .before .before .before .before .starts-with .ensures) ∙ not-true _ (c .before .before .before .before .before .before .before .before .before .if2 .taken)) _ (c .before .before .before .before .before .before .before .reply2 .ensures) _ (c .ended2 .ensures) _ (c .before .before .before .note2 .ensures)
+returns-2 c = let b = c .before .before .before .before .before .before .before .before .before .before .before .before .before .before in
+    rw (c .stop2 .ensures) (unmarked (turning b) (due b) (begun b .pre .1) _ (next b) (c .before .before .before .before .before .before .before .before .before .before .before .before .before .if1 .left) (sym (c .before .before .before .before .before .before .before .before .before .before .before .starts-with .ensures) ∙ not-true _ (c .before .before .before .before .before .before .before .before .before .before .if2 .taken)) _ (c .before .before .before .before .before .before .before .reply2 .ensures ∙ ap (λ (z : ℕ). overlaid (c .before .before .before .before .before .before .before .before .before .before .before .before .before .before .before .loop .out) (8 * i b) (replyOf z 0 0)) (c .before .before .before .before .before .before .before .before .before .refusal-number2 .ensures)) _ (ap (λ (z : ℕ). refusedAt z (b .before .loop .report)) (c .before .before .before .before .before .before .before .before .before .refusal-number2 .ensures)) _ (c .before .before .before .note2 .ensures))
 
 shared-slice-read-q : tie.Need-shared-slice-read-q Inv-loop μ-loop
 shared-slice-read-q c = ten (c .before .before .before .before .before) 2 (omega arith) (c .before .before .before .before .if1 .left)
@@ -195,48 +203,54 @@ value-requires c κs = search needs
 reply-requires-3 : tie.Need-reply-requires-3 Inv-loop μ-loop
 reply-requires-3 c κs = room (c .before .before .before .before .before .before .before .before .before .before .before .before .before .before .before .before .before .before .before)
 
+enum-told : tie.Need-enum-told Inv-loop μ-loop
+enum-told c = search needs
+
 note-requires-3 : tie.Need-note-requires-3 Inv-loop μ-loop
 note-requires-3 c κs = search needs
 
-ended-requires-3 : tie.Need-ended-requires-3 Inv-loop μ-loop
-ended-requires-3 c κs = search needs
+stop-requires-3 : tie.Need-stop-requires-3 Inv-loop μ-loop
+stop-requires-3 c κs = search needs
 
 same-length-5 : tie.Need-same-length-5 Inv-loop μ-loop
-same-length-5 c = c .before .before .before .before .before .before .before .before .reply3 .kept .0 ∙ turning (c .before .before .before .before .before .before .before .before .before .before .before .before .before .before .before .before .before .before .before .before .before .before .before .before .before .before .before .before) .going .long
+same-length-5 c = c .before .before .before .before .before .before .before .before .before .reply3 .kept .0 ∙ turning (c .before .before .before .before .before .before .before .before .before .before .before .before .before .before .before .before .before .before .before .before .before .before .before .before .before .before .before .before .before) .going .long
 
 same-length-6 : tie.Need-same-length-6 Inv-loop μ-loop
-same-length-6 c = c .before .before .before .note3 .kept .0 ∙ turning (c .before .before .before .before .before .before .before .before .before .before .before .before .before .before .before .before .before .before .before .before .before .before .before .before .before .before .before .before) .going .free-long
+same-length-6 c = c .before .before .before .note3 .kept .0 ∙ turning (c .before .before .before .before .before .before .before .before .before .before .before .before .before .before .before .before .before .before .before .before .before .before .before .before .before .before .before .before .before) .going .free-long
 
 returns-3 : tie.Need-returns-3 Inv-loop μ-loop
-returns-3 c = let d = c .before .before .before .before .before .before .before .before .before .before .before .before in
-    stopped (turning (b d)) (due (b d)) (begun (b d) .pre .1) (x (b d)) (next (b d)) (all d) (mark d) _ (here d) _ (value d) _ _ _ _ (d .turn .ensures)
-    _ (c .before .before .before .before .before .before .before .before .before .before .before .number .ensures) _ (c .before .before .before .before .before .before .before .before .before .value .ensures) _ (c .before .before .before .before .before .before .before .before .reply3 .ensures) (c .before .before .before .before .before .if3 .taken) _ (c .ended3 .ensures) _ (c .before .before .before .note3 .ensures)
+returns-3 c = let d = c .before .before .before .before .before .before .before .before .before .before .before .before .before in
+    rw (c .stop3 .ensures) (stopped (turning (b d)) (due (b d)) (begun (b d) .pre .1) (x (b d)) (next (b d)) (all d) (mark d) _ (here d) _ (value d) _ _ _ _ (d .turn .ensures)
+    _ (c .before .before .before .before .before .before .before .before .before .before .before .before .number .ensures) _ (c .before .before .before .before .before .before .before .before .before .before .value .ensures) _ (c .before .before .before .before .before .before .before .before .before .reply3 .ensures) (ap accepted (c .before .before .before .before .before .enum-told .given .1)) _ refl _ (c .before .before .before .note3 .ensures))
+
+enum-told-2 : tie.Need-enum-told-2 Inv-loop μ-loop
+enum-told-2 c = search needs
 
 copied-requires-2 : tie.Need-copied-requires-2 Inv-loop μ-loop
 copied-requires-2 c κs = search needs
 
 mul-tasks : tie.Need-mul-tasks Inv-loop μ-loop
-mul-tasks c = omega (arith, c .before .before .before .before .before .before .before .before .before .before .before .before .before .before .before .slot .ensures)
+mul-tasks c = omega (arith, c .before .before .before .before .before .before .before .before .before .before .before .before .before .before .before .before .slot .ensures)
 
 array-set-from-tasks : tie.Need-array-set-from-tasks Inv-loop μ-loop
-array-set-from-tasks c = omega (arith, c .before .before .before .before .before .before .before .before .before .before .before .before .before .before .before .slot .ensures)
+array-set-from-tasks c = omega (arith, c .before .before .before .before .before .before .before .before .before .before .before .before .before .before .before .before .slot .ensures)
 
 note-requires-4 : tie.Need-note-requires-4 Inv-loop μ-loop
 note-requires-4 c κs = search needs
 
 counted-requires : tie.Need-counted-requires Inv-loop μ-loop
-counted-requires c κs = let b = c .before .before .before .before .before .before .before .before .before .before .before .before .before .before .before .before .before .before .before .before .before .before .before .before .before .before .before .before .before in few-le (i b) 6553 _ (small b) (turning b .going .few)
+counted-requires c κs = let b = c .before .before .before .before .before .before .before .before .before .before .before .before .before .before .before .before .before .before .before .before .before .before .before .before .before .before .before .before .before .before in few-le (i b) 6553 _ (small b) (turning b .going .few)
 
 add-i : tie.Need-add-i Inv-loop μ-loop
-add-i c = omega (arith, due (c .before .before .before .before .before .before .before .before .before .before .before .before .before .before .before .before .before .before .before .before .before .before .before .before .before .before .before .before .before .before), begun (c .before .before .before .before .before .before .before .before .before .before .before .before .before .before .before .before .before .before .before .before .before .before .before .before .before .before .before .before .before .before) .pre .0)
+add-i c = omega (arith, due (c .before .before .before .before .before .before .before .before .before .before .before .before .before .before .before .before .before .before .before .before .before .before .before .before .before .before .before .before .before .before .before), begun (c .before .before .before .before .before .before .before .before .before .before .before .before .before .before .before .before .before .before .before .before .before .before .before .before .before .before .before .before .before .before .before) .pre .0)
 
 loop-less : tie.Need-loop-less Inv-loop μ-loop
-loop-less c = omega (arith, due (c .before .before .before .before .before .before .before .before .before .before .before .before .before .before .before .before .before .before .before .before .before .before .before .before .before .before .before .before .before .before))
+loop-less c = omega (arith, due (c .before .before .before .before .before .before .before .before .before .before .before .before .before .before .before .before .before .before .before .before .before .before .before .before .before .before .before .before .before .before .before))
 
 loop-again : tie.Need-loop-again Inv-loop μ-loop
-loop-again c = let d = c .before .before .before .before .before .before .before .before .before .before .before .before .before .before in
+loop-again c = let d = c .before .before .before .before .before .before .before .before .before .before .before .before .before .before .before in
     went-on (turning (b d)) (due (b d)) (begun (b d) .pre .1) (x (b d)) (next (b d)) (all d) (mark d) _ (here d) _ (value d) _ _ _ _ (d .turn .ensures)
-    _ (c .before .before .before .before .before .before .before .before .before .before .before .before .before .number .ensures) _ (c .before .before .before .before .before .before .before .before .before .before .before .value .ensures) _ (c .before .before .before .before .before .before .before .before .before .before .reply3 .ensures) (c .before .before .before .before .before .before .before .if3 .left) _ (c .before .before .before .before .before .before .before .before .before .before .before .before .before .before .before .before .before .before .before .before .slot .ensures) _ (c .before .before .before .before .before .copied2 .ensures) _ (c .counted .ensures) _ (c .before .before .before .note4 .ensures)
+    _ (c .before .before .before .before .before .before .before .before .before .before .before .before .before .before .number .ensures) _ (c .before .before .before .before .before .before .before .before .before .before .before .before .value .ensures) _ (c .before .before .before .before .before .before .before .before .before .before .before .reply3 .ensures) (ap accepted (c .before .before .before .before .before .before .before .enum-told2 .given .1)) _ (c .before .before .before .before .before .before .before .before .before .before .before .before .before .before .before .before .before .before .before .before .before .slot .ensures) _ (c .before .before .before .before .before .copied2 .ensures) _ (c .counted .ensures) _ (c .before .before .before .note4 .ensures)
 
 same-length-7 : tie.Need-same-length-7 Inv-loop μ-loop
 same-length-7 c = c .before .loop .inv .going .long
@@ -258,9 +272,10 @@ run-tables-spec =
     loop-holds
     mul-at
     sub-if1
+    refusal-number-requires
     reply-requires
     note-requires
-    ended-requires
+    stop-requires
     same-length
     same-length-2
     returns
@@ -269,9 +284,10 @@ run-tables-spec =
     part-e-start
     part-e-end
     starts-with-requires
+    refusal-number-requires-2
     reply-requires-2
     note-requires-2
-    ended-requires-2
+    stop-requires-2
     same-length-3
     same-length-4
     returns-2
@@ -288,11 +304,13 @@ run-tables-spec =
     number-requires
     value-requires
     reply-requires-3
+    enum-told
     note-requires-3
-    ended-requires-3
+    stop-requires-3
     same-length-5
     same-length-6
     returns-3
+    enum-told-2
     copied-requires-2
     mul-tasks
     array-set-from-tasks
