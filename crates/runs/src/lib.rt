@@ -229,7 +229,12 @@ fn run_tables(
 fn untried(ts: [Task; 16], free: u8, r: Refusal) -> Left
     ensures { λ q. ⌜ q ≡ leftBy ts free (reportOf (refusalNumber r)) ⌝ }
 {
-    stop(ts, free, no_report(0), answers::refusal_number(r))
+    let report = no_report(answers::refusal_number(r));
+    Left {
+        tasks: ts,
+        free: free,
+        report: report,
+    }
 }
 
 // A run over lent tables: 22 by ranges, 23 and 21 come before any entry, in that order. Each entry tried leaves its number of free nodes, while there is room.
