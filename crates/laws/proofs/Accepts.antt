@@ -23,7 +23,8 @@ use Rattle.laws.specs.Types.{Refusal, NoTask, NoKind, NoCell, NotZero, N
 use Rattle.laws.specs.Kept.{Kept}
 use Rattle.laws.specs.Accepts.{May, go, load, store, release, validate, Fits}
 use Rattle.laws.proofs.Entries.{taskNo}
-use Rattle.laws.proofs.Damage.{in-range, Steady, steady}
+use Rattle.laws.proofs.Ranges.{in-range}
+use Rattle.laws.proofs.Damage.{Steady, steady}
 
 -- neither of two tests holds
 neither : (a b : Bool) → (a || b) ≡ false → (a ≡ false) × (b ≡ false)

@@ -3,16 +3,15 @@ use Prim.Native.Nat.{ℕ, _+_, _≤_, _<_}
 use native.Mathlib.Omega.{arith}
 use native.Mathlib.Decide.{decLe, decLt, ℕ-discrete}
 use mathlib.Core.Path.{_≡_, refl, sym, ap, _∙_, subst}
-use mathlib.Core.Bool.{Bool, true, _&&_}
+use mathlib.Core.Bool.{Bool, true}
 use mathlib.Core.List.{List, [], _∷_}
 use lib.Dec.{leb, ltb}
 use lib.ListN.{length, getD, set, replicate, length-set, length-replicate, getD-replicate, List·getD-eq-default}
 use lib.Seq.{getD-set-same, getD-set-other, set-out}
-use borrow.Author.Tests.{le-leb, ltb-true}
+use borrow.Author.Tests.{le-leb}
 use Rattle.tallies.specs.Lists.{every}
 use Rattle.tallies.proofs.Lists.{both, fill-past, every-at, every-same}
 use Rattle.tasks.specs.Records.{nodeNo, noTask, idleOwning, taskOk}
-use Rattle.tasks.specs.Phases.{isPhase}
 use Rattle.tables.specs.Tables.{cellOk, countOk, taskOkIn, taskIn, valueGiven}
 use Rattle.entries.specs.Entry.{entryOf}
 use Rattle.entries.specs.Order.{orderOf}
@@ -28,6 +27,7 @@ use Rattle.laws.specs.Beyond.{Bare, Agree, Alike, Alike-after}
 use Rattle.laws.proofs.Entries.{taskNo, by-entry}
 use Rattle.laws.proofs.Rows.{moves}
 use Rattle.laws.proofs.Keeps.{Proper}
+use Rattle.laws.proofs.Ranges.{task-in}
 use Rattle.laws.proofs.Table.{row-proper, entry-keeps}
 use Rattle.laws.proofs.Start.{Sizes, by-setup, setup-kept}
 use Rattle.laws.proofs.Reached.{scheduled}
@@ -170,15 +170,10 @@ module _ (m : Machine) (cs vs ns : List ℕ) (ts : List Task) (C : Agree 0 (m .n
 
   module _ (inside : inRange m ≡ true) where
     task-range : (q : ℕ) → q < m .p → InRange (m .n) (m .k) (getD (m .tasks) q noTask)
-    unfolding inRange taskOk
+    unfolding inRange
     task-range q h =
-        let t = getD (m .tasks) q noTask in
         let all = both (tablesOk (m .n) (m .p) (m .k) (m .free) (m .cells) (m .counts)) (every (taskOkIn (m .tasks) (m .n) (m .k)) (m .p)) inside .1 in
-        let a = both (isPhase (t .phase) && ltb (t .cell .0) (m .n) && ltb (t .held .0) (m .k) && ltb (t .own .0) (m .k)) (ltb (t .cursor .0) (m .k)) (every-at (taskOkIn (m .tasks) (m .n) (m .k)) (m .p) q all h) in
-        let b = both (isPhase (t .phase) && ltb (t .cell .0) (m .n) && ltb (t .held .0) (m .k)) (ltb (t .own .0) (m .k)) (a .0) in
-        let c = both (isPhase (t .phase) && ltb (t .cell .0) (m .n)) (ltb (t .held .0) (m .k)) (b .0) in
-        let d = both (isPhase (t .phase)) (ltb (t .cell .0) (m .n)) (c .0) in
-        record { phase = rw (d .0) tt; cell = ltb-true _ _ (d .1); held = ltb-true _ _ (c .1); own = ltb-true _ _ (b .1); cursor = ltb-true _ _ (a .1) }
+        task-in (m .n) (m .k) (getD (m .tasks) q noTask) (every-at (taskOkIn (m .tasks) (m .n) (m .k)) (m .p) q all h)
 
     seen-same : (t : Task) → InRange (m .n) (m .k) t → seenOf m t ≡ seenOf m′ t
     seen-same t r = λ i. record {

@@ -1,23 +1,21 @@
 -- Refusal 22 is never met by a record that is `Kept`: not by its ranges, not by a step, not in a run. Assumes nothing.
-use Prim.Native.Nat.{ℕ, _+_, _-_, _*_, _≤_, _<_}
+use Prim.Native.Nat.{ℕ, _+_, _-_, _≤_, _<_}
 use native.Mathlib.Omega.{arith}
 use mathlib.Core.Path.{_≡_, refl, sym, _∙_}
-use mathlib.Core.Bool.{true, false≢true}
+use mathlib.Core.Bool.{false≢true}
 use mathlib.Core.List.{List}
 use mathlib.Core.Logic.{_≢_}
 use lib.Dec.{T, eqb}
 use lib.ListN.{getD, set}
-use borrow.Author.Tests.{lt-ltb, le-ltb, le-leb, ne-eqb, eqb-true}
-use Rattle.tallies.proofs.Lists.{within-true, every-true, by-test}
+use borrow.Author.Tests.{le-ltb, ne-eqb, eqb-true}
+use Rattle.tallies.proofs.Lists.{by-test}
 use Rattle.tallies.specs.Tally.{bit}
-use Rattle.tallies.proofs.Tally.{T→true}
 use Rattle.tallies.proofs.Bounds.{total-part}
 use Rattle.answers.proofs.Numbers.{only-22}
-use Rattle.tasks.specs.Records.{onward, probing, taskOk}
-use Rattle.tasks.specs.Phases.{isPhase, resting, holds}
+use Rattle.tasks.specs.Records.{onward, probing}
+use Rattle.tasks.specs.Phases.{resting, holds}
 use Rattle.steps.specs.Table.{after, freeAfter, recountedOf, raisedOf, loweredOf, counting, leaving, s6, rows, noPhase, effectOf}
-use Rattle.tables.specs.Tables.{sizesOk, cellOk, countOk, taskOkIn}
-use Rattle.cells.specs.Machine.{seenOf, poolOk, inRange}
+use Rattle.cells.specs.Machine.{seenOf}
 use Rattle.cells.specs.Apply.{applyOf}
 use Rattle.runs.specs.Run.{ranOf}
 use Rattle.laws.specs.Types.{Replied, Refused, Reply, Moved, Lost, Released, NoStep, Damaged, NodeNo, Task, Seen, Count, To, Effect, Does, Refuses, Machine}
@@ -26,44 +24,11 @@ use Rattle.laws.proofs.Phases.{by-phase}
 use Rattle.laws.proofs.Entries.{Damage, by-range, by-step, by-entry}
 use Rattle.laws.proofs.Keeps.{task, freed}
 use Rattle.laws.proofs.Table.{entry-keeps}
-use Rattle.laws.proofs.Room.{shared-out, count-most, can-lower, can-raise}
+use Rattle.laws.proofs.Room.{shared-out, can-lower, can-raise}
+use Rattle.laws.proofs.Ranges.{in-range}
 use Rattle.laws.proofs.Runs.{run-never}
 
 module _ (m : Machine) (K : Kept m) where
-  -- every test of the ranges passes
-  task-ok : (q : ℕ) → q < m .p → taskOkIn (m .tasks) (m .n) (m .k) q ≡ true
-  unfolding taskOk
-  task-ok q h =
-      let r = K .sound .each q h in
-      rw (T→true (isPhase (task m q .phase)) (r .phase), lt-ltb _ _ (r .cell), lt-ltb _ _ (r .held), lt-ltb _ _ (r .own), lt-ltb _ _ (r .cursor))
-
-  -- no more free nodes than K
-  free-most : m .free ≤ m .k
-  free-most = omega (arith, K .free-counted, shared-out (m .counts) (m .k))
-
-  pub pool-ok : poolOk (m .n) (m .p) (m .k) (m .free) ≡ true
-  unfolding sizesOk
-  pool-ok =
-      let k = K .sound in
-      rw (
-        within-true 1 64 (m .n) (k .a-cell) (k .cells),
-        within-true 1 16 (m .p) (k .a-task) (k .tasks),
-        le-leb (m .n + 2 * m .p) (m .k) (k .room),
-        le-leb (m .k) 128 (k .nodes),
-        le-leb (m .free) (m .k) free-most,
-      )
-
-  pub in-range : inRange m ≡ true
-  unfolding inRange
-  in-range =
-      let k = K .sound in
-      rw (
-        pool-ok,
-        every-true (cellOk (m .cells) (m .k)) (m .n) (λ x h. lt-ltb _ _ (k .pointed x h)),
-        every-true (countOk (m .counts) (m .p)) (m .k) (λ i h. le-leb _ _ (count-most m K i h)),
-        every-true (taskOkIn (m .tasks) (m .n) (m .k)) (m .p) task-ok,
-      )
-
   -- a step is made, or the task is idle or linked
   abbrev pub Steady : ℕ → Effect → Type 0
   Steady f (Does d) = Unit {0}
@@ -133,7 +98,7 @@ module _ (m : Machine) (K : Kept m) where
       clash r q = let z : _≡_ {A = ℕ} 0 1 = cc in omega arith
 
       neither : Damage m e → ⊥
-      neither (by-range q) = false≢true (sym q ∙ in-range)
+      neither (by-range q) = false≢true (sym q ∙ in-range m K)
       neither (by-step h q) =
           let w : Damaged ≡ NoStep = rw q at (steady (getD e 2 0) h) .0 in
           let z : _≡_ {A = ℕ} 0 1 = cc in omega arith

@@ -15,6 +15,8 @@ use Rattle.cells.specs.Apply.{applyOf}
 use Rattle.cells.specs.Setup.{blankOf, setupOf}
 use Rattle.cells.specs.declared.free.FreeCount.the-variants.{Free}
 use Rattle.cells.specs.Free.{freeNodes}
+use Rattle.cells.proofs.Written.{Long}
+use Rattle.cells.proofs.Ranges.{keeps-ranges}
 use Rattle.runs.specs.Counts.{accepted, kindOf, taskOf, anywhere, loadsAt, stepsAt, turnedAt, swapsAt}
 use Rattle.entries.specs.Schedule.{entriesIn, entriesOf}
 use Rattle.runs.specs.Run.{replyBytes, repliesOf, untriedOf, ranOf, bufferOf, notedOf}
@@ -42,7 +44,8 @@ use Rattle.laws.proofs.Start.{setup-kept, setup-blank}
 use Rattle.laws.proofs.Runs.{run-damaged, run-long, run-no-room, run-tries, buffer-length, buffer-past, run-no-18}
 use Rattle.laws.proofs.Reached.{schedule-keeps, reached-kept, scheduled}
 use Rattle.laws.proofs.Beyond.{reached-bare, entry-alike}
-use Rattle.laws.proofs.Damage.{in-range, entry-undamaged, run-undamaged}
+use Rattle.laws.proofs.Ranges.{in-range, schedule-ranges}
+use Rattle.laws.proofs.Damage.{entry-undamaged, run-undamaged}
 use Rattle.laws.proofs.Engine.{pool, follows, matches, answered, replies-follow}
 use Rattle.laws.proofs.Stores.{store-answered, store-unlinked}
 use Rattle.laws.proofs.Validate as Validate
@@ -95,10 +98,19 @@ pub refused-run : (m : Machine) (s out frees : List ℕ)
     → (ranOf m s (length out) ≡ untriedOf m NoRoom) × (bufferOf m s out ≡ out) × (notedOf m s (length out) frees ≡ frees))
 refused-run m s out frees = (run-damaged m s out frees, run-long m s out frees, run-no-room m s out frees)
 
--- no record reached from an accepted setup meets 22: not by its ranges, not by a step, not in a run (Damage)
+-- no record reached from an accepted setup meets 22: not by its ranges (Ranges), not by a step, not in a run (Damage)
 pub never-damaged : {m : Machine} → Reached m
     → (inRange m ≡ true) × ((e : List ℕ) → applyOf m e .answer ≢ Refused Damaged) × ((s : List ℕ) (room : ℕ) → ranOf m s room .report .refusal ≢ 22)
 never-damaged {m} r = (in-range m (reached-kept r), entry-undamaged m (reached-kept r), λ s room. run-undamaged m s room (reached-kept r))
+
+-- an entry, accepted or refused, keeps the ranges, from any record that is in range, reached from a setup or not, if its arrays have the lengths of
+-- their types; so a run that tests the ranges at its start may leave the later tests out (item 14; cells' Ranges)
+pub ranges-kept : (m : Machine) → Long m → inRange m ≡ true → (e : List ℕ) → inRange (applyOf m e .machine) ≡ true
+ranges-kept = keeps-ranges
+
+-- and so after every entry of a schedule: `applyOf` tests the ranges first, and in a run from such a record that test never fails (Ranges)
+pub ranges-kept-on : (m : Machine) → Long m → inRange m ≡ true → (es : List (List ℕ)) → inRange (applied m es) ≡ true
+ranges-kept-on = schedule-ranges
 
 -- 18, which document 02 gives no more, is the number of no answer: of no reply, and of no refusal of a setup, an entry or a text (answers' Numbers);
 -- and no run reports it, whatever the record and the bytes (Runs)

@@ -29,7 +29,7 @@ use Rattle.laws.proofs.Entries.{by-entry, steppedBy}
 use Rattle.laws.proofs.Table.{entry-keeps}
 use Rattle.laws.proofs.Start.{setup-kept, setup-matches}
 use Rattle.laws.proofs.Reached.{schedule-keeps, applied-append}
-use Rattle.laws.proofs.Damage.{in-range}
+use Rattle.laws.proofs.Ranges.{in-range}
 use Rattle.laws.proofs.Follows.{events-whole, entry-fits}
 use Rattle.laws.proofs.Runs.{replies-length, reply-at, replies-tried}
 

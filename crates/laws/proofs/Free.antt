@@ -20,7 +20,7 @@ use Rattle.laws.specs.Meaning.{free}
 use Rattle.laws.specs.Kept.{Kept}
 use Rattle.laws.specs.Schedules.{applied, tried}
 use Rattle.laws.proofs.Table.{entry-keeps}
-use Rattle.laws.proofs.Damage.{pool-ok, in-range}
+use Rattle.laws.proofs.Ranges.{pool-ok, in-range}
 
 pub told-free : (m : Machine) → Kept m → freeNodes m ≡ Free (free m)
 unfolding freeOf

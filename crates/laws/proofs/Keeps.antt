@@ -1,4 +1,4 @@
--- What a deed must show of itself so that every fact of `Kept` holds after it, and the deeds that show it alike. Assumes nothing.
+-- What a deed must show of itself so that every fact of `Kept` beyond the ranges holds after it, and the deeds that show it alike. Assumes nothing.
 use Prim.Native.Nat.{ℕ, _+_, _-_, _≤_, _<_}
 use native.Mathlib.Omega.{arith}
 use native.Mathlib.Decide.{ℕ-discrete}
@@ -15,10 +15,9 @@ use Rattle.tasks.specs.Phases.{isPhase, holds, live, passed}
 use Rattle.tasks.specs.Holders.{keeps}
 use Rattle.steps.specs.Table.{freeAfter}
 use Rattle.cells.specs.Machine.{cellsAfter, valuesAfter, countsAfter, freeBy, written}
-use Rattle.cells.proofs.Written.{cells-after, values-after, counts-after}
 use Rattle.laws.specs.Types.{NodeNo, TaskNo, Task, Write, Nothing, Point, Count, Value, Machine}
 use Rattle.laws.specs.Meaning.{points, claims, pointers, claimers, freeIn}
-use Rattle.laws.specs.Kept.{Apart, Ready, InRange, Kept}
+use Rattle.laws.specs.Kept.{Apart, Ready, Sound, Kept}
 use Rattle.laws.proofs.Phases.{phase-gives}
 
 -- task q's record
@@ -38,6 +37,10 @@ Proper m Nothing = Unit {0}
 Proper m (Point x v) = x .0 < m .n
 Proper m (Count v d f) = (v .0 < m .k) × (f ≡ freeAfter (m .free) (getD (m .counts) (v .0) 0) d)
 Proper m (Value v y) = v .0 < m .k
+
+-- what a task's record t and a write leave of m is `Kept`, if it is sound
+abbrev pub Kept-if-sound : Machine → TaskNo → Task → Write → Type 0
+Kept-if-sound m p t w = Sound (written m p t w) → Kept (written m p t w)
 
 module _ (m : Machine) (K : Kept m) where
   pub in-list : {q : ℕ} → q < m .p → q < length (m .tasks)
@@ -113,9 +116,6 @@ module _ (m : Machine) (K : Kept m) (p : TaskNo) (hp : p .0 < m .p) (t : Task) (
   pub moved : (w : Task → ℕ) (t′ : Task) → tally w (m .p) (tasks-with t′) + w t ≡ tally w (m .p) (m .tasks) + w t′
   moved w t′ = rw e at (tally-set w (m .p) (m .tasks) (p .0) t′ noTask hp (in-list m K hp))
 
-  pub range : InRange (m .n) (m .k) t
-  range = rw e at (K .sound .each (p .0) hp)
-
   abbrev All-apart : Task → Type 0
   All-apart t′ = (x y : ℕ) → x < m .p → y < m .p → Apart (getD (tasks-with t′) x noTask) (getD (tasks-with t′) y noTask)
 
@@ -137,7 +137,6 @@ module _ (m : Machine) (K : Kept m) (p : TaskNo) (hp : p .0 < m .p) (t : Task) (
 
   -- t′ claims, holds and owns no more than t
   pub record Calm (t′ : Task) : Type 0 where
-    pub range : InRange (m .n) (m .k) t′
     pub less : (i : ℕ) → claims i t′ ≤ claims i t
     pub passes : T (passed (t′ .phase)) → T (passed (t .phase)) × (t′ .held .0 ≡ t .held .0)
     pub lives : T (live (t′ .phase)) → T (live (t .phase)) × (t′ .own .0 ≡ t .own .0)
@@ -145,8 +144,6 @@ module _ (m : Machine) (K : Kept m) (p : TaskNo) (hp : p .0 < m .p) (t : Task) (
 
   -- what t becoming t′ and the three tables must show
   pub record Local (t′ : Task) (cells values counts : List ℕ) : Type 0 where
-    pub in-range : InRange (m .n) (m .k) t′
-    pub pointed : (x : ℕ) → x < m .n → getD cells x 0 < m .k
     pub balance : (i : ℕ) → i < m .k → getD counts i 0 + pointers m i + claims i t + keeps i t ≡ getD (m .counts) i 0 + tally (points i) (m .n) cells + claims i t′ + keeps i t′
     pub sole : (i : ℕ) → i < m .k → tally (points i) (m .n) cells + claimers m i + claims i t′ ≤ 1 + claims i t
     pub held : All-apart t′
@@ -156,22 +153,9 @@ module _ (m : Machine) (K : Kept m) (p : TaskNo) (hp : p .0 < m .p) (t : Task) (
   abbrev pub Leaves : Task → Write → Type 0
   Leaves t′ w = Local t′ (cellsAfter m w) (valuesAfter m w) (countsAfter m w)
 
-  pub stepped : (t′ : Task) (w : Write) → Leaves t′ w → Proper m w → Kept (written m p t′ w)
-  stepped t′ w l h = record {
-    sound = record {
-      cells-length = cells-after m w ∙ K .sound .cells-length;
-      values-length = values-after m w ∙ K .sound .values-length;
-      counts-length = counts-after m w ∙ K .sound .counts-length;
-      tasks-length = length-set (m .tasks) (p .0) t′ ∙ K .sound .tasks-length;
-      a-cell = K .sound .a-cell;
-      cells = K .sound .cells;
-      a-task = K .sound .a-task;
-      tasks = K .sound .tasks;
-      room = K .sound .room;
-      nodes = K .sound .nodes;
-      pointed = l .pointed;
-      each = λ q hq. put-at (InRange (m .n) (m .k)) (m .tasks) (p .0) t′ noTask (in-list m K hp) (l .in-range) q (λ n. K .sound .each q hq);
-    };
+  pub stepped : (t′ : Task) (w : Write) → Leaves t′ w → Proper m w → Kept-if-sound m p t′ w
+  stepped t′ w l h s = record {
+    sound = s;
     free-counted = tells m K w h;
     counted = λ i h. omega (arith, K .counted i h, l .balance i h, moved (claims i) t′, moved (keeps i) t′);
     sole = λ i h. omega (arith, l .sole i h, moved (claims i) t′);
@@ -183,8 +167,6 @@ module _ (m : Machine) (K : Kept m) (p : TaskNo) (hp : p .0 < m .p) (t : Task) (
   pub calm : (t′ : Task) (counts : List ℕ) → Calm t′
       → ((i : ℕ) → i < m .k → getD counts i 0 + claims i t + keeps i t ≡ getD (m .counts) i 0 + claims i t′ + keeps i t′) → Local t′ (m .cells) (m .values) counts
   calm t′ counts c b = record {
-    in-range = c .range;
-    pointed = K .sound .pointed;
     balance = λ i h. omega (arith, b i h);
     sole = λ i h. omega (arith, K .sole i h, c .less i);
     held = tame t′ (c .passes) (c .lives);
@@ -199,17 +181,16 @@ module _ (m : Machine) (K : Kept m) (p : TaskNo) (hp : p .0 < m .p) (t : Task) (
   pub lowers : (t′ : Task) → 0 < getD (m .counts) (t .held .0) 0 → Calm t′ → ((i : ℕ) → claims i t + keeps i t ≡ claims i t′ + keeps i t′ + bit (eqb (t .held .0) i))
       → Local t′ (m .cells) (m .values) (set (m .counts) (t .held .0) (getD (m .counts) (t .held .0) 0 - 1))
   lowers t′ h c b =
+      let in-k : t .held .0 < m .k = rw e at (K .sound .each (p .0) hp .held) in
       calm t′ (set (m .counts) (t .held .0) (getD (m .counts) (t .held .0) 0 - 1)) c
-      (λ i hi. omega (arith, b i, down-at (m .counts) (t .held .0) i (in-counts m K (range .held)) h))
+      (λ i hi. omega (arith, b i, down-at (m .counts) (t .held .0) i (in-counts m K in-k) h))
 
   -- the task comes to own a node that nothing points at and nobody claims or holds, but the task itself
-  pub claiming : (v : NodeNo) (counts : List ℕ) → v .0 < m .k → pointers m (v .0) + claimers m (v .0) ≡ claims (v .0) t
+  pub claiming : (v : NodeNo) (counts : List ℕ) → pointers m (v .0) + claimers m (v .0) ≡ claims (v .0) t
       → ((x : ℕ) → x < m .p → x ≢ p .0 → keeps (v .0) (task m x) ≡ 0)
       → ((i : ℕ) → i < m .k → getD counts i 0 + claims i t + keeps i t ≡ getD (m .counts) i 0 + bit (eqb (v .0) i))
       → Local (onward (owning t v) 0) (m .cells) (m .values) counts
-  claiming v counts hv free unheld b = record {
-    in-range = record { phase = omega arith; cell = range .cell; held = range .held; own = hv; cursor = range .cursor };
-    pointed = K .sound .pointed;
+  claiming v counts free unheld b = record {
     balance = λ i h. omega (arith, b i h);
     sole = λ i h. elim (ℕ-discrete (v .0) i) [
       | yes q ↦ omega (arith, rw q at free, bit-le (eqb (v .0) i))

@@ -1,12 +1,13 @@
 pub mod Phases
 pub mod Entries
 pub mod Rows
-pub mod Room
-pub mod Damage
 pub mod Keeps
+pub mod Room
+pub mod Ranges
 pub mod Table
 pub mod Start
 pub mod Runs
+pub mod Damage
 pub mod Reached
 pub mod Beyond
 pub mod Accepts

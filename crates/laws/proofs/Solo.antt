@@ -28,8 +28,9 @@ use Rattle.laws.specs.Solo.{Finished, Within}
 use Rattle.laws.proofs.Phases.{by-phase}
 use Rattle.laws.proofs.Entries.{go-steps}
 use Rattle.laws.proofs.Keeps.{task, put-here, in-counts}
-use Rattle.laws.proofs.Table.{step-keeps}
-use Rattle.laws.proofs.Damage.{in-range, Steady, steady}
+use Rattle.laws.proofs.Ranges.{in-range}
+use Rattle.laws.proofs.Table.{entry-keeps}
+use Rattle.laws.proofs.Damage.{Steady, steady}
 use Rattle.laws.proofs.Room.{used-less, can-lower}
 use Rattle.laws.proofs.Rows.{Moves, l1, l2, l3-passed, l3-turned, l4, l5, s1, s2-swapped, s2-missed, s3-took, s3-shared, s5, s6-took, s6-busy, s7, r1, v1-good, v1-gone, moves}
 
@@ -165,7 +166,7 @@ module _ (p : ℕ) where
       let c = can-step m K hp b in
       let d = c .0 in
       let t = task m p in
-      let K′ = step-keeps m K (record { 0 = p }) hp d (c .1) in
+      let K′ : Kept (stepped m d) = rw (go-steps m p (in-range m K) hp, c .1) at (entry-keeps m (go p) K) in
       let now : task (stepped m d) p ≡ d .task = put-here m K (d .task) hp in
       rw (go-steps m p (in-range m K) hp, c .1)
       (elim (row m K hp n (t .phase) d refl e (moves t (seenOf m t) d (c .1)) K′ now) [

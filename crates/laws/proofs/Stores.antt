@@ -28,7 +28,7 @@ use Rattle.laws.specs.Acts.{actsFrom, eventsOf}
 use Rattle.laws.specs.Accepts.{Formed, StoreAnswered, no-cell, not-now, unlinked, linked}
 use Rattle.laws.specs.Schedules.{applied}
 use Rattle.laws.proofs.Entries.{taskNo, Unlinked, idle, elsewhere, Loses, lostBy, by-store}
-use Rattle.laws.proofs.Damage.{in-range}
+use Rattle.laws.proofs.Ranges.{in-range}
 use Rattle.laws.proofs.Start.{setup-kept}
 use Rattle.laws.proofs.Reached.{schedule-keeps}
 use Rattle.laws.proofs.Follows.{whole, events-whole, no-part}

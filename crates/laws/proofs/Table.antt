@@ -1,7 +1,6 @@
--- Every row of the step table and every call begun keep `Kept`, and so does every entry. Assumes nothing.
+-- Every row of the step table and every call begun keep what `Kept` says beyond the ranges; Ranges has those, and so every entry keeps `Kept`. Assumes nothing.
 use Prim.Native.Nat.{ℕ, _+_, _-_, _≤_, _<_}
 use native.Mathlib.Omega.{arith}
-use native.Mathlib.Nat.{mod-lt}
 use mathlib.Core.Path.{_≡_, refl, sym, ap, _∙_}
 use mathlib.Core.Bool.{not, _||_}
 use mathlib.Core.List.{List}
@@ -9,27 +8,24 @@ use mathlib.Core.Logic.{_≢_}
 use lib.ListN.{getD, set}
 use lib.Seq.{getD-set-same, getD-set-other}
 use lib.Dec.{T, eqb}
-use borrow.Author.Tests.{ne-eqb}
 use Rattle.tallies.specs.Tally.{bit, tally}
-use Rattle.tallies.proofs.Tally.{tally-set, tally-at, tally-two, up-at, down-at, bit-eq, put-at}
+use Rattle.tallies.proofs.Tally.{tally-set, tally-at, tally-two, up-at, down-at, bit-eq}
 use Rattle.wire.specs.Bytes.{wordAt}
 use Rattle.tasks.specs.Calls.{begunOf}
 use Rattle.tasks.specs.Records.{cellNo, noTask, onward, holding, owning, probing}
-use Rattle.tasks.specs.Phases.{isPhase, live, passed}
+use Rattle.tasks.specs.Phases.{live, passed}
 use Rattle.tasks.specs.Holders.{keeps}
 use Rattle.steps.specs.Table.{after, effectOf}
-use Rattle.cells.specs.Machine.{seenOf, written}
+use Rattle.cells.specs.Machine.{seenOf}
 use Rattle.cells.specs.Apply.{applyOf}
 use Rattle.laws.specs.Types.{CellNo, NodeNo, TaskNo, Task, Load, Store, Release, Validate, Nothing, Point, Value, Deed, Does, Machine}
 use Rattle.laws.specs.Meaning.{points, claims, pointers}
-use Rattle.laws.specs.Kept.{InRange, Kept}
+use Rattle.laws.specs.Kept.{InRange, Sound, Kept}
 use Rattle.laws.proofs.Phases.{implied}
 use Rattle.laws.proofs.Entries.{by-entry, taskNo}
 use Rattle.laws.proofs.Rows.{Moves, l1, l2, l3-passed, l3-turned, l4, l5, s1, s2-swapped, s2-missed, s3-took, s3-shared, s5, s6-took, s6-busy, s7, r1, v1-good, v1-gone, moves}
-use Rattle.laws.proofs.Keeps.{task, in-list, in-counts, in-values, in-cells, pointed, own-apart, part, pairs, tame, Proper, Calm, Local, Leaves, stepped, calm, alone, lowers, claiming}
-
-in-phase : {n k : ℕ} {t : Task} (f : ℕ) → T (isPhase f) → InRange n k t → InRange n k (onward t f)
-in-phase f h r = record { phase = h; cell = r .cell; held = r .held; own = r .own; cursor = r .cursor }
+use Rattle.laws.proofs.Keeps.{task, in-list, in-counts, in-values, in-cells, pointed, own-apart, part, pairs, tame, Proper, Kept-if-sound, Calm, Local, Leaves, stepped, calm, alone, lowers, claiming}
+use Rattle.laws.proofs.Ranges.{entry-sound}
 
 module _ (m : Machine) (K : Kept m) (p : TaskNo) (hp : p .0 < m .p) where
   abbrev t : Task
@@ -41,21 +37,16 @@ module _ (m : Machine) (K : Kept m) (p : TaskNo) (hp : p .0 < m .p) where
   in-t : InRange (m .n) (m .k) t
   in-t = K .sound .each (p .0) hp
 
-  next-in : (v : NodeNo) → after (m .k) v .0 < m .k
-  unfolding after
-  next-in v = let h : 0 < m .k = omega (arith, K .sound .a-cell, K .sound .room) in rw (ne-eqb (m .k) 0 (omega arith)) (mod-lt (v .0 + 1) h)
-
   -- going on from phase a to phase b, where the record then claims, holds and owns no more
   abbrev Gently : ℕ → ℕ → Type 0
-  Gently a b = T (isPhase b) × (b ≢ 8) × ((i : ℕ) → claims i (at b) ≤ claims i (at a)) × T (not (passed b) || passed a) × T (not (live b) || live a)
+  Gently a b = (b ≢ 8) × ((i : ℕ) → claims i (at b) ≤ claims i (at a)) × T (not (passed b) || passed a) × T (not (live b) || live a)
 
   onward-calm : (a b : ℕ) (e : t ≡ at a) → Gently a b → Calm m K p hp (at a) e (at b)
   onward-calm a b e g = record {
-    range = in-phase b (g .0) in-t;
-    less = g .2;
-    passes = λ w. (implied (passed b) (passed a) (g .3) w, refl);
-    lives = λ w. (implied (live b) (live a) (g .4) w, refl);
-    ready = g .1;
+    less = g .1;
+    passes = λ w. (implied (passed b) (passed a) (g .2) w, refl);
+    lives = λ w. (implied (live b) (live a) (g .3) w, refl);
+    ready = g .0;
   }
 
   -- and nothing else
@@ -65,7 +56,6 @@ module _ (m : Machine) (K : Kept m) (p : TaskNo) (hp : p .0 < m .p) where
   -- the cursor goes on, in phases that own and pass nothing
   probes : (a : ℕ) (e : t ≡ at a) (v : NodeNo) → Calm m K p hp (at a) e (onward (probing t (after (m .k) v)) 12)
   probes a e v = record {
-    range = record { phase = omega arith; cell = in-t .cell; held = in-t .held; own = in-t .own; cursor = next-in v };
     less = λ i. omega arith;
     passes = λ k. absurd k;
     lives = λ l. absurd l;
@@ -74,8 +64,6 @@ module _ (m : Machine) (K : Kept m) (p : TaskNo) (hp : p .0 < m .p) where
 
   l3-keeps : (e : t ≡ at 3) → t .held .0 ≡ getD (m .cells) (t .cell .0) 0 → Leaves m K p hp (at 3) e (at 4) Nothing
   l3-keeps e q = record {
-    in-range = in-phase 4 (omega arith) in-t;
-    pointed = K .sound .pointed;
     balance = λ i h. refl;
     sole = λ i h. omega (arith, K .sole i h);
     held = pairs m K p hp (at 3) e (at 4) (λ y hy ny k. free y hy) (λ x hx nx. rw e at (K .held x (p .0) hx hp)) (λ k. rw e at (free (p .0) hp));
@@ -88,8 +76,6 @@ module _ (m : Machine) (K : Kept m) (p : TaskNo) (hp : p .0 < m .p) where
 
   s1-keeps : (e : t ≡ at 7) → Leaves m K p hp (at 7) e (at 8) (Value (t .own) (t .value))
   s1-keeps e = record {
-    in-range = in-phase 8 (omega arith) in-t;
-    pointed = K .sound .pointed;
     balance = λ i h. refl;
     sole = λ i h. omega (arith, K .sole i h);
     held = tame m K p hp (at 7) e (at 8) (λ k. (tt, refl)) (λ l. (tt, refl));
@@ -101,8 +87,6 @@ module _ (m : Machine) (K : Kept m) (p : TaskNo) (hp : p .0 < m .p) where
 
   s2-keeps : (e : t ≡ at 8) → t .held .0 ≡ getD (m .cells) (t .cell .0) 0 → Leaves m K p hp (at 8) e (at 9) (Point (t .cell) (t .own))
   s2-keeps e q = record {
-    in-range = in-phase 9 (omega arith) in-t;
-    pointed = λ x hx. put-at (λ (v : ℕ). v < m .k) (m .cells) (t .cell .0) (t .own .0) 0 (in-cells m K (in-t .cell)) (in-t .own) x (λ ne. K .sound .pointed x hx);
     balance = λ i h. omega (arith, swing i);
     sole = λ i h. omega (arith, K .sole i h, swing i);
     held = tame m K p hp (at 8) e (at 9) (λ k. absurd k) (λ l. absurd l);
@@ -118,7 +102,7 @@ module _ (m : Machine) (K : Kept m) (p : TaskNo) (hp : p .0 < m .p) where
       → Local m K p hp (at 9) e (onward (owning t (t .held)) 0) (m .cells) (m .values) (set (m .counts) (t .held .0) (getD (m .counts) (t .held .0) 0 - 1))
   s3-keeps e one =
       let v = t .held .0 in
-      claiming m K p hp (at 9) e (t .held) (set (m .counts) v (getD (m .counts) v 0 - 1)) (in-t .held)
+      claiming m K p hp (at 9) e (t .held) (set (m .counts) v (getD (m .counts) v 0 - 1))
       (omega (arith, K .counted v (in-t .held), part m K p hp (at 9) e (claims v), part m K p hp (at 9) e (keeps v), bit-eq v v refl))
       (λ x hx nx. omega (
         arith,
@@ -133,14 +117,13 @@ module _ (m : Machine) (K : Kept m) (p : TaskNo) (hp : p .0 < m .p) where
   s6-keeps : (e : t ≡ at 12) → getD (m .counts) (t .cursor .0) 0 ≡ 0 → Local m K p hp (at 12) e (onward (owning t (t .cursor)) 0) (m .cells) (m .values) (set (m .counts) (t .cursor .0) 1)
   s6-keeps e z =
       let u = t .cursor .0 in
-      claiming m K p hp (at 12) e (t .cursor) (set (m .counts) u 1) (in-t .cursor) (omega (arith, K .counted u (in-t .cursor)))
+      claiming m K p hp (at 12) e (t .cursor) (set (m .counts) u 1) (omega (arith, K .counted u (in-t .cursor)))
       (λ x hx nx. omega (arith, K .counted u (in-t .cursor), tally-at (keeps u) (m .p) (m .tasks) x noTask hx (in-list m K hx)))
       (λ i h. omega (arith, rw z at (up-at (m .counts) u i (in-counts m K (in-t .cursor)))))
 
   row-keeps : {n : ℕ} {d : Deed} → Moves t (seenOf m t) n d → (e : t ≡ at n) → Leaves m K p hp (at n) e (d .task) (d .write)
   row-keeps l1 e =
       alone m K p hp (at 1) e (onward (holding t _) 2) (record {
-        range = record { phase = omega arith; cell = in-t .cell; held = K .sound .pointed (t .cell .0) (in-t .cell); own = in-t .own; cursor = in-t .cursor };
         less = λ i. omega arith;
         passes = λ k. absurd k;
         lives = λ l. (tt, refl);
@@ -185,44 +168,43 @@ module _ (m : Machine) (K : Kept m) (p : TaskNo) (hp : p .0 < m .p) where
   row-proper (v1-good q) = tt
   row-proper (v1-gone q) = tt
 
-  pub step-keeps : (d : Deed) → effectOf t (seenOf m t) ≡ Does d → Kept (written m p (d .task) (d .write))
+  step-keeps : (d : Deed) → effectOf t (seenOf m t) ≡ Does d → Kept-if-sound m p (d .task) (d .write)
   step-keeps d q = let r = moves t (seenOf m t) d q in stepped m K p hp t refl (d .task) (d .write) (row-keeps r refl) (row-proper r)
 
   -- a call begun changes the task's record, to one that claims, holds and owns what it did
-  begun : (f : ℕ) (t′ : Task) (e : t ≡ at f) → Calm m K p hp (at f) e t′ → ((i : ℕ) → claims i (at f) + keeps i (at f) ≡ claims i t′ + keeps i t′) → Kept (written m p t′ Nothing)
+  begun : (f : ℕ) (t′ : Task) (e : t ≡ at f) → Calm m K p hp (at f) e t′ → ((i : ℕ) → claims i (at f) + keeps i (at f) ≡ claims i t′ + keeps i t′) → Kept-if-sound m p t′ Nothing
   begun f t′ e c b = stepped m K p hp (at f) e t′ Nothing (alone m K p hp (at f) e t′ c b) tt
 
-  load-keeps : (x : CellNo) → t .phase ≡ 0 → x .0 < m .n → Kept (written m p (begunOf t (Load x)) Nothing)
-  load-keeps x q h = begun 0 (begunOf t (Load x)) (ap (onward t) q) (record {
-    range = record { phase = omega arith; cell = h; held = in-t .held; own = in-t .own; cursor = in-t .cursor };
+  load-keeps : (x : CellNo) → t .phase ≡ 0 → Kept-if-sound m p (begunOf t (Load x)) Nothing
+  load-keeps x q = begun 0 (begunOf t (Load x)) (ap (onward t) q) (record {
     less = λ i. omega arith;
     passes = λ k. absurd k;
     lives = λ l. (tt, refl);
     ready = omega arith;
   }) (λ i. omega arith)
 
-  store-keeps : (y : ℕ) → t .phase ≡ 6 → Kept (written m p (begunOf t (Store y)) Nothing)
+  store-keeps : (y : ℕ) → t .phase ≡ 6 → Kept-if-sound m p (begunOf t (Store y)) Nothing
   store-keeps y q = begun 6 (begunOf t (Store y)) (ap (onward t) q) (record {
-    range = record { phase = omega arith; cell = in-t .cell; held = in-t .held; own = in-t .own; cursor = in-t .cursor };
     less = λ i. omega arith;
     passes = λ k. (tt, refl);
     lives = λ l. (tt, refl);
     ready = omega arith;
   }) (λ i. omega arith)
 
-  release-keeps : t .phase ≡ 6 → Kept (written m p (begunOf t Release) Nothing)
+  release-keeps : t .phase ≡ 6 → Kept-if-sound m p (begunOf t Release) Nothing
   release-keeps q = let e = ap (onward t) q in begun 6 (at 14) e (onward-calm 6 14 e (omega arith)) (λ i. omega arith)
 
-  validate-keeps : t .phase ≡ 6 → Kept (written m p (begunOf t Validate) Nothing)
+  validate-keeps : t .phase ≡ 6 → Kept-if-sound m p (begunOf t Validate) Nothing
   validate-keeps q = let e = ap (onward t) q in begun 6 (at 15) e (onward-calm 6 15 e (omega arith)) (λ i. omega arith)
 
 -- one entry, whatever its bytes
 pub entry-keeps : (m : Machine) (e : List ℕ) → Kept m → Kept (applyOf m e .machine)
 entry-keeps m e K =
-    by-entry m e (λ a. Kept (a .machine)) (λ i r w. K)
-    (λ a h. load-keeps m K (taskNo e) (a .task) (cellNo (getD e 4 0)) (a .phase) h)
+    by-entry m e (λ a. Sound (a .machine) → Kept (a .machine)) (λ i r w s. K)
+    (λ a h. load-keeps m K (taskNo e) (a .task) (cellNo (getD e 4 0)) (a .phase))
     (λ a h. store-keeps m K (taskNo e) (a .task) (wordAt e 6) (a .phase))
-    (λ a. K)
+    (λ a s. K)
     (λ a. release-keeps m K (taskNo e) (a .task) (a .phase))
     (λ a. validate-keeps m K (taskNo e) (a .task) (a .phase))
     (λ d s. step-keeps m K (taskNo e) (s .task) d (s .does))
+    (entry-sound m K e)
