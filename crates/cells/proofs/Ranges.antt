@@ -27,9 +27,9 @@ use Rattle.tables.proofs.Laws.{sizes-bounds}
 use Rattle.entries.specs.Entry.{entryAt, entryOf, nonzero, outside}
 use Rattle.entries.specs.Order.{linkedTo, loadOf, storeOf, linkedCallOf, callOf, orderOf}
 use Rattle.cells.specs.Types.{Machine, TaskNo, Task, Seen, Write, Nothing, Point, Count, Value, Effect, Does, Refuses, Entry, EntryRead, Decision}
-use Rattle.cells.specs.Machine.{seenOf, cellsAfter, countsAfter, freeBy, leftBy, carriedOf, poolOk, inRange}
+use Rattle.cells.specs.Machine.{seenOf, cellsAfter, countsAfter, freeBy, leftBy, carriedOf, poolOk, inRange, Long}
 use Rattle.cells.specs.Apply.{judgedOf, decisionOf, carriedBy, applyOf}
-use Rattle.cells.proofs.Written.{Long, long-written}
+use Rattle.cells.proofs.Written.{long-written}
 
 -- the fields of a task's record in range for n cells and k nodes, but for its phase
 pub record Inside (n k : ℕ) (t : Task) : Type 0 where

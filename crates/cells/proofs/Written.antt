@@ -6,7 +6,7 @@ use lib.ListN.{length, set, length-set}
 use Rattle.tables.specs.Tables.{putIn}
 use Rattle.tables.proofs.Laws.{put-set}
 use Rattle.cells.specs.Types.{Machine, TaskNo, Task, Write, Nothing, Point, Count, Value}
-use Rattle.cells.specs.Machine.{cellsBy, valuesBy, countsBy, freeBy, cellsAfter, valuesAfter, countsAfter, written}
+use Rattle.cells.specs.Machine.{cellsBy, valuesBy, countsBy, freeBy, cellsAfter, valuesAfter, countsAfter, written, Long}
 
 cells-put : (m : Machine) (w : Write) → length (m .cells) ≡ 64 → cellsBy (putIn 64) w (m .cells) ≡ cellsAfter m w
 cells-put m Nothing h = refl
@@ -26,32 +26,25 @@ counts-put m (Point x v) h = refl
 counts-put m (Count v c f) h = put-set 128 (m .counts) (v .0) c h
 counts-put m (Value v y) h = refl
 
--- the lengths of a machine's tables
-pub record Long (m : Machine) : Type 0 where
-  pub cells : length (m .cells) ≡ 64
-  pub values : length (m .values) ≡ 128
-  pub counts : length (m .counts) ≡ 128
-  pub tasks : length (m .tasks) ≡ 16
-
 pub put-written : (m : Machine) → Long m → (w : Write) (u : Task) (j i : ℕ) → j ≡ i → (cs vs ns : List ℕ) (f : ℕ) → cs ≡ cellsBy (putIn 64) w (m .cells) → vs ≡ valuesBy (putIn 128) w (m .values) → ns ≡ countsBy (putIn 128) w (m .counts) → f ≡ freeBy w (m .free)
     → record { n = m .n; p = m .p; k = m .k; free = f; cells = cs; values = vs; counts = ns; tasks = set (m .tasks) j u } ≡ written m (record { 0 = i }) u w
 put-written m long w u j i e cs vs ns f hc hv hn hf =
     rw (hc ∙ cells-put m w (long .cells), hv ∙ values-put m w (long .values), hn ∙ counts-put m w (long .counts), hf, e)
 
 -- no write changes a table's length
-pub cells-after : (m : Machine) (w : Write) → length (cellsAfter m w) ≡ length (m .cells)
+cells-after : (m : Machine) (w : Write) → length (cellsAfter m w) ≡ length (m .cells)
 cells-after m Nothing = refl
 cells-after m (Point x v) = length-set (m .cells) (x .0) (v .0)
 cells-after m (Count v c f) = refl
 cells-after m (Value v y) = refl
 
-pub values-after : (m : Machine) (w : Write) → length (valuesAfter m w) ≡ length (m .values)
+values-after : (m : Machine) (w : Write) → length (valuesAfter m w) ≡ length (m .values)
 values-after m Nothing = refl
 values-after m (Point x v) = refl
 values-after m (Count v c f) = refl
 values-after m (Value v y) = length-set (m .values) (v .0) y
 
-pub counts-after : (m : Machine) (w : Write) → length (countsAfter m w) ≡ length (m .counts)
+counts-after : (m : Machine) (w : Write) → length (countsAfter m w) ≡ length (m .counts)
 counts-after m Nothing = refl
 counts-after m (Point x v) = refl
 counts-after m (Count v c f) = length-set (m .counts) (v .0) c

@@ -1,9 +1,10 @@
 -- The machine record: what a step sees of it, what a step leaves of it, and its ranges.
 use Prim.Native.Nat.{ℕ}
 use mathlib.Core.Bool.{Bool, _&&_}
+use mathlib.Core.Path.{_≡_}
 use mathlib.Core.List.{List}
 use lib.Dec.{leb}
-use lib.ListN.{set}
+use lib.ListN.{length, set}
 use Rattle.tallies.specs.Lists.{every}
 use Rattle.steps.specs.Table.{answerOf}
 use Rattle.tables.specs.Tables.{nodeIn, countIn, valueIn, sizesOk, cellOk, countOk, taskOkIn}
@@ -99,3 +100,10 @@ tablesOk n p k free cells counts = poolOk n p k free && every (cellOk cells k) n
 -- and every task's record in range
 unfoldable pub inRange : Machine → Bool
 inRange m = tablesOk (m .n) (m .p) (m .k) (m .free) (m .cells) (m .counts) && every (taskOkIn (m .tasks) (m .n) (m .k)) (m .p)
+
+-- the arrays have the lengths of their types: so has every record of the code, and a list of the logic need not
+pub record Long (m : Machine) : Type 0 where
+  pub cells : length (m .cells) ≡ 64
+  pub values : length (m .values) ≡ 128
+  pub counts : length (m .counts) ≡ 128
+  pub tasks : length (m .tasks) ≡ 16

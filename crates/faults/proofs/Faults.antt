@@ -1,4 +1,4 @@
--- The four faults, each with a schedule that breaks figure 1, and the mended table on the same schedule, which obeys it. Demand 2 asks for figure 1's
+-- Four faults, each with a schedule that breaks figure 1, and the mended table on the same schedule, which obeys it. Demand 2 asks for figure 1's
 -- values and figure 1's results, a load acting at its passing check, a store at its swap, a validate at its step. Each first theorem says that the
 -- schedule's history isn't one of figure 1's; a later one, that it is until the last entry, and what that entry is answered. Assumes nothing.
 use mathlib.Core.Path.{_≡_, refl}

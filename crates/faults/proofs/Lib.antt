@@ -1,3 +1,4 @@
 pub mod Legal
 pub mod Rows
 pub mod Faults
+pub mod Ranges

@@ -1,6 +1,6 @@
--- Step benches over the same record and the same bytes: the true table, and four tables with a fault. Only steps differ:
+-- Step benches over the same record and the same bytes: the true table, and five tables with a fault. Only steps differ:
 -- setup, starting a call and all that is refused before a step are the true ones.
-use Prim.Native.Nat.{ℕ}
+use Prim.Native.Nat.{ℕ, _+_}
 use mathlib.Core.Bool.{Bool, cond, not, _&&_}
 use mathlib.Core.List.{List, map}
 use lib.Dec.{eqb, ltb}
@@ -9,11 +9,11 @@ use Rattle.tallies.specs.Lists.{every, fillTo}
 use Rattle.wire.specs.Bytes.{marked, wordAt}
 use Rattle.answers.specs.declared.Reply.the-variants.{Moved, Loaded, Good, Gone}
 use Rattle.tasks.specs.declared.Task.{Task}
-use Rattle.tasks.specs.Records.{onward, holding, taskOk}
+use Rattle.tasks.specs.Records.{nodeNo, onward, holding, probing, taskOk}
 use Rattle.steps.specs.declared.Effect.{Effect}
 use Rattle.steps.specs.declared.Write.the-variants.{Nothing, Point, Value}
-use Rattle.steps.specs.Table.{Row as TableRow, does, counting, raising, noPhase, rows, effectOf, after, recountedOf, raisedOf, loweredOf}
-use Rattle.tables.specs.Tables.{nodeIn, valueIn, taskIn, sizesOk}
+use Rattle.steps.specs.Table.{Row as TableRow, does, counting, raising, s6, noPhase, rows, effectOf, after, recountedOf, raisedOf, loweredOf}
+use Rattle.tables.specs.Tables.{nodeIn, countIn, valueIn, taskIn, sizesOk}
 use Rattle.entries.specs.declared.Entry.{Entry}
 use Rattle.entries.specs.declared.EntryRead.{EntryRead}
 use Rattle.entries.specs.declared.EntryRead.the-variants.{Whole, Refused as Unread}
@@ -118,7 +118,17 @@ unfoldable pub validating : Bench
 unfolding table applyBy
 validating = record { apply = applyBy (set table 15 v1ByValue); passes = checked }
 
--- for `unfolding` lines: all that a setup and an entry compute with, and the five benches
+-- 12 S6 without mod K: if the cursor's node has count 0, as in the table; else cursor on by 1, past the last node too; 0, else 12
+abbrev pub s6Unwrapped : Row
+s6Unwrapped m t =
+    cond (eqb (countIn (m .counts) (t .cursor)) 0) (s6 t (seenOf m t))
+    (does (onward (probing t (nodeNo (t .cursor .0 + 1))) 12) Nothing Moved)
+
+unfoldable pub unwrapping : Bench
+unfolding table applyBy
+unwrapping = record { apply = applyBy (set table 12 s6Unwrapped); passes = checked }
+
+-- for `unfolding` lines: all that a setup and an entry compute with, and the six benches
 unfoldable pub computing : Unit {0}
-unfolding every fillTo marked wordAt taskOk rows effectOf after recountedOf raisedOf loweredOf sizesOk entryOf nonzero outside loadOf storeOf linkedCallOf callOf orderOf carriedOf inRange judgedOf decisionOf applyOf freshOf setupOf mended printed rereading comparing validating
+unfolding every fillTo marked wordAt taskOk rows effectOf after recountedOf raisedOf loweredOf sizesOk entryOf nonzero outside loadOf storeOf linkedCallOf callOf orderOf carriedOf inRange judgedOf decisionOf applyOf freshOf setupOf mended printed rereading comparing validating unwrapping
 computing = tt

@@ -63,3 +63,18 @@ sameValue =
 unfoldable pub asksAfter : List (List ℕ)
 unfolding sameValue
 asksAfter = take 13 sameValue ++ validate 0 ∷ go 0 ∷ []  -- 15: task 0 has compared 7 with 7
+
+-- A cursor that does not go round. One load of task 0 holds each node that task 1's stores swap out, so that task 1 looks for another: it takes node 3,
+-- then node 4, and the third time it starts at node 4, the last one, which is in use.
+unfoldable pub lastNode : List (List ℕ)
+lastNode =
+    load 0 0 ∷ replicate 2 (go 0)  -- 3: task 0 has begun a load and raised the count of node 0
+    ++ load 1 0 ∷ replicate 4 (go 1)  -- 8: task 1 has loaded 7 from node 0
+    ++ store 1 0 8 ∷ replicate 7 (go 1)  -- 16: it has swapped node 2 in, found nodes 1 and 2 busy and taken node 3
+    ++ replicate 4 (go 0)  -- 20: task 0's check has turned it back, and it has raised the count of node 2
+    ++ load 1 0 ∷ replicate 4 (go 1)  -- 25: task 1 has loaded 8 from node 2
+    ++ store 1 0 9 ∷ replicate 6 (go 1)  -- 32: it has swapped node 3 in, found it busy and taken node 4
+    ++ replicate 4 (go 0)  -- 36: task 0 was turned back again, and has raised the count of node 3
+    ++ load 1 0 ∷ replicate 4 (go 1)  -- 41: task 1 has loaded 9 from node 3
+    ++ store 1 0 10 ∷ replicate 4 (go 1)  -- 46: it has swapped node 4 in, and its cursor is at node 4
+    ++ go 1 ∷ []  -- 47: it has found node 4 busy, and its cursor is at 5, which is K

@@ -1,1 +1,1 @@
-// No code here: four faults of the table, each with the schedule that breaks figure 1.
+// No code here: five faults of the table, each with the schedule that shows it. Four break figure 1, and one leaves the ranges.

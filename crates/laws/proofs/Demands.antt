@@ -10,12 +10,11 @@ use Rattle.wire.specs.Bytes.{wordAt}
 use Rattle.answers.specs.Numbers.{numberOf}
 use Rattle.answers.proofs.Numbers.{no-18}
 use Rattle.tables.specs.Tables.{valueGiven}
-use Rattle.cells.specs.Machine.{seenOf, inRange}
+use Rattle.cells.specs.Machine.{seenOf, inRange, Long}
 use Rattle.cells.specs.Apply.{applyOf}
 use Rattle.cells.specs.Setup.{blankOf, setupOf}
 use Rattle.cells.specs.declared.free.FreeCount.the-variants.{Free}
 use Rattle.cells.specs.Free.{freeNodes}
-use Rattle.cells.proofs.Written.{Long}
 use Rattle.cells.proofs.Ranges.{keeps-ranges}
 use Rattle.runs.specs.Counts.{accepted, kindOf, taskOf, anywhere, loadsAt, stepsAt, turnedAt, swapsAt}
 use Rattle.entries.specs.Schedule.{entriesIn, entriesOf}

@@ -10,9 +10,8 @@ use Rattle.tallies.proofs.Tally.{T→true}
 use Rattle.tasks.specs.Records.{taskOk}
 use Rattle.tasks.specs.Phases.{isPhase}
 use Rattle.tables.specs.Tables.{sizesOk, cellOk, countOk, taskOkIn}
-use Rattle.cells.specs.Machine.{poolOk, inRange}
+use Rattle.cells.specs.Machine.{poolOk, inRange, Long}
 use Rattle.cells.specs.Apply.{applyOf}
-use Rattle.cells.proofs.Written.{Long}
 use Rattle.cells.proofs.Ranges.{fields-ok, ok-fields, pointed, recorded, sizes, keeps-ranges, keeps-lengths}
 use Rattle.laws.specs.Types.{Task, Machine}
 use Rattle.laws.specs.Kept.{InRange, Sound, Kept}

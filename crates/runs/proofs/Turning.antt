@@ -17,10 +17,10 @@ use Rattle.entries.specs.Entry.{entryOf}
 use Rattle.entries.specs.Order.{orderOf}
 use Rattle.entries.specs.Asking.{entryBy}
 use Rattle.entries.specs.Schedule.{entriesIn, entriesOf}
-use Rattle.cells.specs.Machine.{seenOf, written, refusedBy, carriedOf, inRange}
+use Rattle.cells.specs.Machine.{seenOf, written, refusedBy, carriedOf, inRange, Long}
 use Rattle.cells.specs.Apply.{applyOf}
 use Rattle.cells.specs.Free.{freeOf, freeValue}
-use Rattle.cells.proofs.Written.{Long, put-written, long-written}
+use Rattle.cells.proofs.Written.{put-written, long-written}
 use Rattle.cells.proofs.Ranges.{keeps-ranges}
 use Rattle.cells.proofs.Untested.{unread-applied, order-applied, its-own}
 use Rattle.turns.specs.declared.Turned.{Turned}

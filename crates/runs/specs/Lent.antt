@@ -15,8 +15,8 @@ abbrev pub madeOf : ℕ → ℕ → ℕ → ℕ → List ℕ → List ℕ → Li
 madeOf n p k free cells values counts tasks = record { n = n; p = p; k = k; free = free; cells = cells; values = values; counts = counts; tasks = tasks }
 
 -- what a run leaves beside the tables
-abbrev pub leftBy : List Task → ℕ → Report → Left
-leftBy tasks free report = record { tasks = tasks; free = free; report = report }
+abbrev pub leftWith : List Task → ℕ → Report → Left
+leftWith tasks free report = record { tasks = tasks; free = free; report = report }
 
 -- the record and the report that it and the tables come to at its end
 abbrev pub leftRan : ℕ → ℕ → ℕ → List ℕ → List ℕ → List ℕ → Left → Ran

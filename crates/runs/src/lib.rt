@@ -15,7 +15,7 @@ ghost use Rattle.cells.specs.Machine.{inRange};
 ghost use Rattle.cells.specs.Free.{freeOf, freeValue};
 ghost use Rattle.entries.specs.Schedule.{entriesIn, entriesOf};
 ghost use Rattle.runs.specs.Run.{repliesFrom, notesFrom, notedBy, reportOf, refusedAt, ranFrom, ranOf, bufferOf, notedOf};
-ghost use Rattle.runs.specs.Lent.{Lengths, madeOf, leftBy, leftRan};
+ghost use Rattle.runs.specs.Lent.{Lengths, madeOf, leftWith, leftRan};
 ghost use Rattle.runs.specs.OneEntry.{loadBegun, loadStep, wentOf, countedBy, Few};
 
 // Entries accepted, the refusal or 0, loads begun, load steps, turned-back checks, swaps that took: all for one run.
@@ -126,7 +126,7 @@ struct Left {
 
 // The run ends with this refusal.
 fn stop(tasks: [Task; 16], free: u8, r: Report, refusal: u8) -> Left
-    ensures { λ q. ⌜ q ≡ leftBy tasks free (refusedAt refusal r) ⌝ }
+    ensures { λ q. ⌜ q ≡ leftWith tasks free (refusedAt refusal r) ⌝ }
 {
     let mut last = r;
     last.refusal = refusal;
@@ -227,7 +227,7 @@ fn run_tables(
 
 // No entry is tried.
 fn untried(ts: [Task; 16], free: u8, r: Refusal) -> Left
-    ensures { λ q. ⌜ q ≡ leftBy ts free (reportOf (refusalNumber r)) ⌝ }
+    ensures { λ q. ⌜ q ≡ leftWith ts free (reportOf (refusalNumber r)) ⌝ }
 {
     let report = no_report(answers::refusal_number(r));
     Left {

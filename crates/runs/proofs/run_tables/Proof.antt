@@ -11,7 +11,7 @@ use Rattle.wire.specs.Bytes.{entryMark, marked, wordAt, replyOf, overlaid}
 use Rattle.tasks.specs.Records.{noTask}
 use Rattle.tables.proofs.Laws.{length-mapped}
 use Rattle.entries.specs.Schedule.{entriesIn}
-use Rattle.cells.proofs.Written.{Long}
+use Rattle.cells.specs.Machine.{Long}
 use Rattle.runs.specs.Types.{Machine}
 use Rattle.runs.specs.Counts.{accepted}
 use Rattle.runs.specs.Run.{refusedAt}

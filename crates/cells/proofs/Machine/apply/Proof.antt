@@ -6,7 +6,8 @@ use Rattle.tasks.specs.Records.{noTask}
 use Rattle.tables.proofs.Laws.{length-mapped}
 use Rattle.cells.specs.Types.{Machine, Replied}
 use Rattle.cells.proofs.Decide.{Known, applied-refuses, applied-does, named}
-use Rattle.cells.proofs.Written.{Long, put-written}
+use Rattle.cells.specs.Machine.{Long}
+use Rattle.cells.proofs.Written.{put-written}
 use borrow.Author.Needs.{needs}
 use Rattle.cells.proofs.Machine.apply.Statement.{statement}
 use Rattle.cells.proofs.Machine.apply.Tie as tie

@@ -1,0 +1,6 @@
+pub mod Tasks
+pub mod Steps
+pub mod Entries
+pub mod Cells
+pub mod Turns
+pub mod Runs

@@ -1,0 +1,3 @@
+pub mod Lent
+pub mod Records
+pub mod Looks
