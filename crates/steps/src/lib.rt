@@ -292,7 +292,7 @@ fn store_step(t: Task, s: Seen) -> Effect
     }
 }
 
-// What the step of a task does, decided by its phase.
+// What the step of a task does, decided by its phase. A run goes by `turns::go`, which asks the same rows and writes back on the spot.
 pub fn step(t: Task, s: Seen) -> Effect
     ensures { λ r. ⌜ r ≡ effectOf t s ⌝ }
 {
