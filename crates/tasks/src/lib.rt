@@ -37,7 +37,7 @@ pub enum HolderCount {
     Refused,
 }
 
-// A record of these fields. Every new record is made here: a copy with one field written anew would be made byte by byte, which takes longer.
+// A record of these fields. The functions below make theirs here: a copy that is changed in one field would be made byte by byte, which takes longer.
 fn with_fields(
     phase: u8,
     cell: CellNo,
