@@ -1,6 +1,6 @@
 pub mod Decide
 pub mod Written
+pub mod Setups
 pub mod Ranges
 pub mod Untested
-pub mod Used
 pub mod Unique

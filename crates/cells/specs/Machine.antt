@@ -52,6 +52,15 @@ freeBy (Point x v) free = free
 freeBy (Count v c f) free = f
 freeBy (Value v y) free = free
 
+-- the record of t after an effect, and the one place that it writes: a refusal leaves the one and has no other
+abbrev pub taskBy : Effect → Task → Task
+taskBy (Refuses r) t = t
+taskBy (Does d) t = d .task
+
+abbrev pub writeBy : Effect → Write
+writeBy (Refuses r) = Nothing
+writeBy (Does d) = d .write
+
 -- each table of a machine after a write
 abbrev pub cellsAfter : Machine → Write → List ℕ
 cellsAfter m w = cellsBy set w (m .cells)

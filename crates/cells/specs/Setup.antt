@@ -9,7 +9,7 @@ use Rattle.wire.specs.Bytes.{setupMark, marked}
 use Rattle.answers.specs.Numbers.{refusalNumber}
 use Rattle.tasks.specs.Records.{nodeNo, noTask, idleOwning}
 use Rattle.tables.specs.Tables.{sizesOk, valueGiven}
-use Rattle.cells.specs.Types.{Machine, SetUp, SetupAnswer, Ready, NotSetUp, Refusal, Sizes, NotZero, WrongMark, TooShort}
+use Rattle.cells.specs.Types.{Machine, SetUp, Head, Laid, SetupAnswer, Ready, NotSetUp, Refusal, Sizes, NotZero, WrongMark, TooShort}
 
 -- all zero
 abbrev pub blankOf : Machine
@@ -51,6 +51,22 @@ setupOf s =
     (cond (not (sizesOk (getD s 2 0) (getD s 3 0) (getD s 4 0))) (refusedSetup Sizes)  -- 11
     (cond (ltb (length s) (6 + 4 * getD s 2 0)) (refusedSetup TooShort)  -- 20
     (record { machine = freshOf (getD s 2 0) (getD s 3 0) (getD s 4 0) s; answer = Ready (6 + 4 * getD s 2 0) })))))
+
+-- a setup without its machine: the sizes and the answer
+abbrev pub headOf : SetUp → Head
+headOf x = record { n = x .machine .n; p = x .machine .p; k = x .machine .k; answer = x .answer }
+
+-- and without the three tables of its machine
+abbrev pub laidOf : SetUp → Laid
+laidOf x =
+    record {
+      n = x .machine .n;
+      p = x .machine .p;
+      k = x .machine .k;
+      free = x .machine .free;
+      tasks = x .machine .tasks;
+      answer = x .answer;
+    }
 
 -- document 01's number of a setup's answer; an accepted one has none, here 0
 abbrev pub setupNumber : SetupAnswer → ℕ

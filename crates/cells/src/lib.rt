@@ -23,10 +23,11 @@ ghost use lib.ListN.{replicate};
 ghost use Rattle.tallies.specs.Lists.{fillTo};
 ghost use Rattle.tasks.specs.Records.{nodeNo, noTask, idleOwning};
 ghost use Rattle.tasks.specs.Holders.{heldAmong};
+ghost use Rattle.steps.specs.Table.{answerOf};
 ghost use Rattle.tables.specs.Tables.{taskIn, putIn};
-ghost use Rattle.cells.specs.Machine.{seenIn, cellsBy, valuesBy, countsBy, freeBy, tablesOk, inRange};
+ghost use Rattle.cells.specs.Machine.{seenIn, cellsBy, valuesBy, countsBy, freeBy, taskBy, writeBy, tablesOk, inRange};
 ghost use Rattle.cells.specs.Apply.{decidedOf, applyOf};
-ghost use Rattle.cells.specs.Setup.{blankOf, freshOf, refusedSetup, setupOf, setupNumber, setupBytes};
+ghost use Rattle.cells.specs.Setup.{refusedSetup, setupOf, headOf, laidOf, setupNumber, setupBytes};
 
 // N, P, K and the number of free nodes; each cell's node; each node's value and count; the task records. What stands past N, P and K makes no difference.
 pub struct Machine {
@@ -58,21 +59,22 @@ pub struct SetUp {
     pub answer: SetupAnswer,
 }
 
-// All zero, as before a setup fills it.
-fn blank() -> Machine
-    ensures { λ r. ⌜ r ≡ blankOf ⌝ }
-{
-    let t = tasks::idle_owning(NodeNo(0));
-    Machine {
-        n: 0,
-        p: 0,
-        k: 0,
-        free: 0,
-        cells: [0; 64],
-        values: [0; 128],
-        counts: [0; 128],
-        tasks: [t; 16],
-    }
+// A setup's answer, and the sizes of the machine that it gives: a refused one has sizes of 0.
+pub struct Head {
+    pub n: u8,
+    pub p: u8,
+    pub k: u8,
+    pub answer: SetupAnswer,
+}
+
+// What a setup gives beside the three tables.
+pub struct Laid {
+    pub n: u8,
+    pub p: u8,
+    pub k: u8,
+    pub free: u8,
+    pub tasks: [Task; 16],
+    pub answer: SetupAnswer,
 }
 
 // Task i owns node n+i.
@@ -92,24 +94,6 @@ fn owners(n: u8, p: u8) -> [Task; 16]
     ts
 }
 
-// The machine that a setup's bytes s describe.
-fn fresh(n: u8, p: u8, k: u8, s: &[u8]) -> Machine
-    requires { ⌜ (n ≤ 64) × (p ≤ 16) × (n + 2 * p ≤ k) ⌝ }
-    ensures { λ r. ⌜ r ≡ freshOf n p k (now (s .entry)) ⌝ }
-{
-    let mut m = blank();
-    m.n = n;
-    m.p = p;
-    m.k = k;
-    m.free = k - n - p;
-    tables::point_cells(&mut m.cells, n);
-    tables::give_values(&mut m.values, s, n);
-    tables::count_ones(&mut m.counts, n + p);
-    let ts = owners(n, p);
-    m.tasks = ts;
-    m
-}
-
 // The length of a setup record for n cells.
 fn setup_len(n: u8) -> usize
     ensures { λ r. ⌜ r ≡ 6 + 4 * n ⌝ }
@@ -117,12 +101,78 @@ fn setup_len(n: u8) -> usize
     6 + 4 * (n as usize)
 }
 
-fn refused_setup(r: Refusal) -> SetUp
-    ensures { λ x. ⌜ x ≡ refusedSetup r ⌝ }
+fn refused_head(r: Refusal) -> Head
+    ensures { λ x. ⌜ x ≡ headOf (refusedSetup r) ⌝ }
 {
-    SetUp {
-        machine: blank(),
+    Head {
+        n: 0,
+        p: 0,
+        k: 0,
         answer: SetupAnswer::Refused(r),
+    }
+}
+
+// The refusals of a setup record's bytes, or its sizes and how many bytes it uses. No table is built.
+pub fn setup_head(s: &[u8]) -> Head
+    ensures { λ r. ⌜ r ≡ headOf (setupOf (now (s .entry))) ⌝ }
+{
+    if s.len() < 6 {
+        return refused_head(Refusal::TooShort);
+    }
+    if !wire::starts_with(s, wire::SETUP) {
+        return refused_head(Refusal::WrongMark);
+    }
+    let spare = s[5];
+    if spare != 0 {
+        return refused_head(Refusal::NotZero);
+    }
+    let n = s[2];
+    let p = s[3];
+    let k = s[4];
+    if !tables::sizes_ok(n, p, k) {
+        return refused_head(Refusal::Sizes);
+    }
+    let used = setup_len(n);
+    if s.len() < used {
+        return refused_head(Refusal::TooShort);
+    }
+    Head {
+        n: n,
+        p: p,
+        k: k,
+        answer: SetupAnswer::Ready(used),
+    }
+}
+
+// The machine of a setup record's bytes, in lent tables: what they held before is gone. A refused setup leaves zeros, the machine of no cells, tasks and nodes.
+pub fn setup_tables(
+    s: &[u8],
+    cells: &mut [u8; 64],
+    values: &mut [u32; 128],
+    counts: &mut [u8; 128],
+) -> Laid
+    ensures { λ r. ⌜ (r ≡ laidOf (setupOf (now (s .entry)))) × (now (cells .exit) ≡ setupOf (now (s .entry)) .machine .cells) × (now (values .exit) ≡ setupOf (now (s .entry)) .machine .values) × (now (counts .exit) ≡ setupOf (now (s .entry)) .machine .counts) ⌝ }
+{
+    let h = setup_head(s);
+    let n = h.n;
+    let p = h.p;
+    let k = h.k;
+    *cells = [0; 64];
+    *values = [0; 128];
+    *counts = [0; 128];
+    tables::point_cells(cells, n);
+    tables::give_values(values, s, n);
+    tables::count_ones(counts, n + p);
+    let ts = owners(n, p);
+    let free = k - n - p;
+    let a = h.answer;
+    Laid {
+        n: n,
+        p: p,
+        k: k,
+        free: free,
+        tasks: ts,
+        answer: a,
     }
 }
 
@@ -131,29 +181,24 @@ impl Machine {
     pub fn setup(s: &[u8]) -> SetUp
         ensures { λ r. ⌜ r ≡ setupOf (now (s .entry)) ⌝ }
     {
-        if s.len() < 6 {
-            return refused_setup(Refusal::TooShort);
-        }
-        if !wire::starts_with(s, wire::SETUP) {
-            return refused_setup(Refusal::WrongMark);
-        }
-        let spare = s[5];
-        if spare != 0 {
-            return refused_setup(Refusal::NotZero);
-        }
-        let n = s[2];
-        let p = s[3];
-        let k = s[4];
-        if !tables::sizes_ok(n, p, k) {
-            return refused_setup(Refusal::Sizes);
-        }
-        let used = setup_len(n);
-        if s.len() < used {
-            return refused_setup(Refusal::TooShort);
-        }
+        let mut cells: [u8; 64] = [0; 64];
+        let mut values: [u32; 128] = [0; 128];
+        let mut counts: [u8; 128] = [0; 128];
+        let l = setup_tables(s, &mut cells, &mut values, &mut counts);
+        let ts = l.tasks;
+        let a = l.answer;
         SetUp {
-            machine: fresh(n, p, k, s),
-            answer: SetupAnswer::Ready(used),
+            machine: Machine {
+                n: l.n,
+                p: l.p,
+                k: l.k,
+                free: l.free,
+                cells: cells,
+                values: values,
+                counts: counts,
+                tasks: ts,
+            },
+            answer: a,
         }
     }
 }
@@ -313,6 +358,38 @@ pub fn write_free(free: u8, w: Write) -> u8
     }
 }
 
+// What an effect leaves of its task's record, the one place that it writes, and its answer: a refusal leaves the record and writes nothing.
+
+fn task_by(e: Effect, t: Task) -> Task
+    ensures { λ r. ⌜ r ≡ taskBy e t ⌝ }
+{
+    match e {
+        Effect::Refuses(_) => t,
+        Effect::Does(d) => d.task,
+    }
+}
+
+fn write_by(e: Effect) -> Write
+    ensures { λ r. ⌜ r ≡ writeBy e ⌝ }
+{
+    match e {
+        Effect::Refuses(_) => Write::Nothing,
+        Effect::Does(d) => d.write,
+    }
+}
+
+fn answer_by(e: Effect) -> Answer
+    ensures { λ r. ⌜ r ≡ answerOf e ⌝ }
+{
+    match e {
+        Effect::Refuses(x) => Answer::Refused(x),
+        Effect::Does(d) => {
+            let y = d.reply;
+            Answer::Replied(y)
+        }
+    }
+}
+
 impl Machine {
     pub fn task_at(self, p: TaskNo) -> Task
         ensures { λ r. ⌜ r ≡ taskIn (self .tasks) p ⌝ }
@@ -354,31 +431,18 @@ impl Machine {
         );
         let i = d.task;
         let effect = d.effect;
-        match effect {
-            Effect::Refuses(r) => {
-                let answer = Answer::Refused(r);
-                Applied {
-                    machine: self,
-                    answer: answer,
-                    task: i,
-                }
-            }
-            Effect::Does(deed) => {
-                let u = deed.task;
-                let w = deed.write;
-                let r = deed.reply;
-                let answer = Answer::Replied(r);
-                self.tasks[j] = u;
-                write_cells(&mut self.cells, w);
-                write_values(&mut self.values, w);
-                write_counts(&mut self.counts, w);
-                self.free = write_free(self.free, w);
-                Applied {
-                    machine: self,
-                    answer: answer,
-                    task: i,
-                }
-            }
+        let u = task_by(effect, t);
+        let w = write_by(effect);
+        let answer = answer_by(effect);
+        self.tasks[j] = u;
+        write_cells(&mut self.cells, w);
+        write_values(&mut self.values, w);
+        write_counts(&mut self.counts, w);
+        self.free = write_free(self.free, w);
+        Applied {
+            machine: self,
+            answer: answer,
+            task: i,
         }
     }
 

@@ -8,8 +8,7 @@ use Rattle.steps.specs.declared.Effect.{Effect}
 use Rattle.steps.specs.Table.{answerOf}
 use Rattle.entries.specs.declared.Asked.{Asked}
 use Rattle.entries.specs.declared.Asked.the-variants.{ToGo, ToLoad, ToStore, ToRelease, ToValidate, Faulty}
-use Rattle.cells.specs.Machine.{cellsBy, valuesBy, countsBy, freeBy}
-use Rattle.turns.specs.Turned.{taskBy, writeBy}
+use Rattle.cells.specs.Machine.{cellsBy, valuesBy, countsBy, freeBy, taskBy, writeBy}
 use Rattle.excluded.specs.Records.{cells, values, counts}
 
 -- the task's record that an effect leaves; all zero if it is a refusal

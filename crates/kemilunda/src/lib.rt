@@ -1,22 +1,22 @@
 // The library for C: numbers and slices only. The header is include/kemilunda.h.
-use cells::Machine;
-use cells::SetupAnswer;
+use runs::Outcome;
 use runs::Report;
 use texts::TextAnswer;
 ghost use mathlib.Core.Path.{_≡_};
 ghost use lib.ListN.{length};
 ghost use Rattle.runs.specs.Run.{sixOf};
+ghost use Rattle.runs.specs.Input.{repliesAfter, freeNodesAfter};
 ghost use Rattle.texts.specs.Made.{answered, laid, textNumber};
 ghost use Rattle.texts.specs.Text.{imported, exported};
-ghost use Rattle.kemilunda.specs.Exported.{setupRefusal, setupUsed, numbersAfter, repliesAfter, freeNodesAfter, writtenBy};
+ghost use Rattle.kemilunda.specs.Exported.{setupRefusal, setupUsed, numbersAfter, writtenBy};
 
 // 0 for a setup that is accepted, else its refusal.
 #[no_mangle]
 pub extern "C" fn kemilunda_setup(input: &[u8]) -> u32
     ensures { λ r. ⌜ r ≡ setupRefusal (now (input .entry)) ⌝ }
 {
-    let s = Machine::setup(input);
-    let a = s.answer;
+    let h = cells::setup_head(input);
+    let a = h.answer;
     cells::setup_number(a) as u32
 }
 
@@ -25,8 +25,8 @@ pub extern "C" fn kemilunda_setup(input: &[u8]) -> u32
 pub extern "C" fn kemilunda_setup_bytes(input: &[u8]) -> usize
     ensures { λ r. ⌜ r ≡ setupUsed (now (input .entry)) ⌝ }
 {
-    let s = Machine::setup(input);
-    let a = s.answer;
+    let h = cells::setup_head(input);
+    let a = h.answer;
     cells::setup_bytes(a)
 }
 
@@ -53,14 +53,9 @@ pub extern "C" fn kemilunda_run_free(
 ) -> u32
     ensures { λ r. ⌜ (r ≡ setupRefusal (now (input .entry))) × (now (replies .exit) ≡ repliesAfter (now (input .entry)) (now (replies .entry))) × (now («free_nodes» .exit) ≡ freeNodesAfter (now (input .entry)) (length (now (replies .entry))) (now («free_nodes» .entry))) × (now (numbers .exit) ≡ numbersAfter (now (input .entry)) (length (now (replies .entry))) (now (numbers .entry))) ⌝ }
 {
-    let s = Machine::setup(input);
-    let a = s.answer;
-    let m = s.machine;
-    match a {
-        SetupAnswer::Refused(r) => answers::refusal_number(r) as u32,
-        SetupAnswer::Ready(used) => {
-            let ran = runs::run_free(m, &input[used..], replies, free_nodes);
-            let report = ran.report;
+    match runs::run_input(input, replies, free_nodes) {
+        Outcome::Refused(r) => answers::refusal_number(r) as u32,
+        Outcome::Reported(report) => {
             *numbers = six(report);
             0
         }

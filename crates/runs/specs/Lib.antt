@@ -3,3 +3,4 @@ pub mod Counts
 pub mod Run
 pub mod OneEntry
 pub mod Lent
+pub mod Input

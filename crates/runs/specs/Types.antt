@@ -8,6 +8,10 @@ pub use Rattle.steps.specs.declared.Effect.{Effect}
 pub use Rattle.steps.specs.declared.Effect.the-variants.{Does, Refuses}
 pub use Rattle.cells.specs.declared.Machine.{Machine}
 pub use Rattle.cells.specs.declared.Applied.{Applied}
+pub use Rattle.cells.specs.declared.SetupAnswer.{SetupAnswer}
+pub use Rattle.cells.specs.declared.SetupAnswer.the-variants.{Ready, Refused as NotSetUp}
 pub use Rattle.runs.specs.declared.Report.{Report}
 pub use Rattle.runs.specs.declared.Ran.{Ran}
 pub use Rattle.runs.specs.declared.Left.{Left}
+pub use Rattle.runs.specs.declared.Outcome.{Outcome}
+pub use Rattle.runs.specs.declared.Outcome.the-variants.{Refused as NotRun, Reported}

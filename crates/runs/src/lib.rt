@@ -2,6 +2,7 @@
 use answers::Answer;
 use answers::Refusal;
 use cells::Machine;
+use cells::SetupAnswer;
 use tasks::CellNo;
 use tasks::Task;
 use tasks::TaskNo;
@@ -16,6 +17,7 @@ ghost use Rattle.cells.specs.Free.{freeOf, freeValue};
 ghost use Rattle.entries.specs.Schedule.{entriesIn, entriesOf};
 ghost use Rattle.runs.specs.Run.{repliesFrom, notesFrom, notedBy, reportOf, refusedAt, ranFrom, ranOf, bufferOf, notedOf};
 ghost use Rattle.runs.specs.Lent.{Lengths, madeOf, leftWith, leftRan};
+ghost use Rattle.runs.specs.Input.{outcomeOf, repliesAfter, freeNodesAfter};
 ghost use Rattle.runs.specs.OneEntry.{loadBegun, loadStep, wentOf, countedBy, Few};
 
 // Entries accepted, the refusal or 0, loads begun, load steps, turned-back checks, swaps that took: all for one run.
@@ -314,4 +316,42 @@ pub fn run(m: Machine, s: &[u8], out: &mut [u8]) -> Ran
 {
     let mut none: [u8; 0] = [];
     run_free(m, s, out, &mut none)
+}
+
+// What comes of a setup and its schedule: the setup's refusal, or the run's report.
+pub enum Outcome {
+    Refused(Refusal),
+    Reported(Report),
+}
+
+// A setup and its schedule from bytes, as `Machine::setup` and `run_free` have it, without a record: the tables lie here, and are lent to both.
+pub fn run_input(input: &[u8], out: &mut [u8], free_nodes: &mut [u8]) -> Outcome
+    ensures { λ r. ⌜ (r ≡ outcomeOf (now (input .entry)) (length (now (out .entry)))) × (now (out .exit) ≡ repliesAfter (now (input .entry)) (now (out .entry))) × (now («free_nodes» .exit) ≡ freeNodesAfter (now (input .entry)) (length (now (out .entry))) (now («free_nodes» .entry))) ⌝ }
+{
+    let mut cells: [u8; 64] = [0; 64];
+    let mut values: [u32; 128] = [0; 128];
+    let mut counts: [u8; 128] = [0; 128];
+    let m = cells::setup_tables(input, &mut cells, &mut values, &mut counts);
+    let a = m.answer;
+    match a {
+        SetupAnswer::Refused(r) => Outcome::Refused(r),
+        SetupAnswer::Ready(used) => {
+            let ts = m.tasks;
+            let left = run_lent(
+                m.n,
+                m.p,
+                m.k,
+                m.free,
+                &mut cells,
+                &mut values,
+                &mut counts,
+                ts,
+                &input[used..],
+                out,
+                free_nodes,
+            );
+            let report = left.report;
+            Outcome::Reported(report)
+        }
+    }
 }

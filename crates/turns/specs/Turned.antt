@@ -4,17 +4,8 @@ use mathlib.Core.Path.{_≡_}
 use mathlib.Core.List.{List}
 use Rattle.tables.specs.Tables.{putIn}
 use Rattle.steps.specs.Table.{answerOf}
-use Rattle.cells.specs.Machine.{cellsBy, valuesBy, countsBy, freeBy}
-use Rattle.turns.specs.Types.{Task, Write, Nothing, Effect, Does, Refuses, Turned}
-
--- the record of t afterwards, and the one place that is written: a refusal leaves the one and has no other
-abbrev pub taskBy : Effect → Task → Task
-taskBy (Refuses r) t = t
-taskBy (Does d) t = d .task
-
-abbrev pub writeBy : Effect → Write
-writeBy (Refuses r) = Nothing
-writeBy (Does d) = d .write
+use Rattle.cells.specs.Machine.{cellsBy, valuesBy, countsBy, freeBy, taskBy, writeBy}
+use Rattle.turns.specs.Types.{Task, Effect, Turned}
 
 abbrev pub turnedOf : Effect → Task → ℕ → Turned
 turnedOf e t free = record { task = taskBy e t; free = freeBy (writeBy e) free; answer = answerOf e }

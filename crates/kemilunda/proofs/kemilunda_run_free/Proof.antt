@@ -1,17 +1,38 @@
--- `kemilunda_run_free`: a refused setup leaves the three places; an accepted one is run on what follows it. Assumes nothing.
-use Prim.Native.Nat.{_-_}
-use mathlib.Core.Path.{sym, ap, _∙_}
-use Rattle.tallies.proofs.Lists.{part}
-use Rattle.cells.proofs.Used.{setup-uses}
+-- `kemilunda_run_free`: a refused setup gives its number and leaves the three places; else the six numbers are the report's. Assumes nothing.
+use Prim.Native.Nat.{ℕ}
+use mathlib.Core.Path.{_≡_, refl, sym, ap, _∙_}
+use mathlib.Core.List.{List}
+use native.Mathlib.Omega.{arith}
+use Rattle.answers.specs.declared.Refusal.{Refusal}
+use Rattle.answers.specs.Numbers.{refusalNumber}
+use Rattle.cells.specs.declared.Machine.{Machine}
+use Rattle.cells.specs.declared.SetupAnswer.{SetupAnswer}
+use Rattle.cells.specs.declared.SetupAnswer.the-variants.{Ready, Refused as NotSetUp}
+use Rattle.cells.specs.Setup.{setupNumber, setupOf}
+use Rattle.runs.specs.declared.Report.{Report}
+use Rattle.runs.specs.declared.Outcome.the-variants.{Refused, Reported}
+use Rattle.runs.specs.Run.{sixOf}
+use Rattle.runs.specs.Input.{outcomeBy}
+use Rattle.kemilunda.specs.Exported.{numbersBy}
 use borrow.Author.Needs.{needs}
 use Rattle.kemilunda.proofs.kemilunda_run_free.Statement.{statement}
 use Rattle.kemilunda.proofs.kemilunda_run_free.Tie as tie
 
-setup-requires : tie.Need-setup-requires
-setup-requires c κs = search needs
+-- what the outcome tells of the setup's answer a, and of the six places, which hold `old`
+module _ (m : Machine) (input : List ℕ) (room : ℕ) (old : List ℕ) where
+  refused : (a : SetupAnswer) (r : Refusal) → outcomeBy a m input room ≡ Refused r → (refusalNumber r ≡ setupNumber a) × (old ≡ numbersBy a m input room old)
+  refused (Ready used) r h = let z : _≡_ {A = ℕ} 0 1 = cc in absurd (omega arith)
+  refused (NotSetUp x) r h = let same : x ≡ r = cc in (ap refusalNumber (sym same), refl)
 
-enum-known-a : tie.Need-enum-known-a
-enum-known-a c = search needs
+  reported : (a : SetupAnswer) (x : Report) → outcomeBy a m input room ≡ Reported x → (0 ≡ setupNumber a) × (sixOf x ≡ numbersBy a m input room old)
+  reported (Ready used) x h = (refl, cc)
+  reported (NotSetUp r) x h = let z : _≡_ {A = ℕ} 0 1 = cc in absurd (omega arith)
+
+run-input-requires : tie.Need-run-input-requires
+run-input-requires c κs = search needs
+
+enum-known-r : tie.Need-enum-known-r
+enum-known-r c = search needs
 
 refusal-number-requires : tie.Need-refusal-number-requires
 refusal-number-requires c κs = search needs
@@ -19,28 +40,11 @@ refusal-number-requires c κs = search needs
 cast-result : tie.Need-cast-result
 cast-result c = search needs
 
-enum-known-a-2 : tie.Need-enum-known-a-2
-enum-known-a-2 c = search needs
-
-sub-run-free : tie.Need-sub-run-free
-sub-run-free c = setup-uses (c .before .before .before .before .before .before .before .before .args .input .now) _ (sym (ap (λ x. x .answer) (c .before .before .before .before .setup .ensures)) ∙ c .before .a2 .given .1)
-
-part-run-free-start : tie.Need-part-run-free-start
-part-run-free-start c = setup-uses (c .before .before .before .before .before .before .before .before .args .input .now) _ (sym (ap (λ x. x .answer) (c .before .before .before .before .setup .ensures)) ∙ c .before .a2 .given .1)
-
-part-run-free-end : tie.Need-part-run-free-end
-part-run-free-end c = search needs
-
-run-free-requires : tie.Need-run-free-requires
-run-free-requires c κs = search needs
+enum-known-report : tie.Need-enum-known-report
+enum-known-report c = search needs
 
 six-requires : tie.Need-six-requires
 six-requires c κs = search needs
-
-returns : tie.Need-returns
-returns c = let setup = c .before .before .before .before .before .setup .ensures in
-    let refused = c .before .before .a .given .1 in
-    (rw (c .refusal-number .ensures, ← setup, refused), rw (← setup, refused), rw (← setup, refused), rw (← setup, refused))
 
 same-length : tie.Need-same-length
 same-length c = search needs
@@ -48,28 +52,37 @@ same-length c = search needs
 same-length-2 : tie.Need-same-length-2
 same-length-2 c = search needs
 
+returns : tie.Need-returns
+returns c = let ran = c .before .before .before .before .before .before .before .before .run-input .ensures in
+    let a = c .before .before .before .before .before .before .before .before .before .before .before .before .before .before .args in
+    let told = refused (setupOf (a .input .now) .machine) (a .input .now) _ (a .numbers .now) (setupOf (a .input .now) .answer) _ (sym (ran .0) ∙ c .before .before .r .given .1) in
+    (c .refusal-number .ensures ∙ told .0, ran .1, ran .2, told .1)
+
+same-length-3 : tie.Need-same-length-3
+same-length-3 c = search needs
+
+same-length-4 : tie.Need-same-length-4
+same-length-4 c = search needs
+
 returns-2 : tie.Need-returns-2
-returns-2 c = let setup = c .before .before .before .before .before .before .before .before .before .before .before .before .before .before .setup .ensures in
-    let ready = c .before .before .before .before .before .before .before .before .before .before .before .a2 .given .1 in
-    let e = part (c .before .before .before .before .before .before .before .before .before .before .before .before .before .before .before .before .before .before .args .input .now) (c .before .before .before .before .before .before .before .before .before .before .before .a2 .given .0 .0) in
-    let ran = c .before .before .before .before .before .before .run-free .ensures in
-    (rw (← setup, ready), rw (← setup, ready, ← e) (ran .1), rw (← setup, ready, ← e) (ran .2), rw (c .six .ensures, ← setup, ready, ← e, ran .0))
+returns-2 c = let ran = c .before .before .before .before .before .before .before .before .run-input .ensures in
+    let a = c .before .before .before .before .before .before .before .before .before .before .before .before .before .before .args in
+    let told = reported (setupOf (a .input .now) .machine) (a .input .now) _ (a .numbers .now) (setupOf (a .input .now) .answer) _ (sym (ran .0) ∙ c .before .before .report .given .1) in
+    (told .0, ran .1, ran .2, c .six .ensures ∙ told .1)
 
 pub kemilunda-run-free-spec : {M : Type 1} → statement M
 kemilunda-run-free-spec =
     tie.close
     (tie.spec
-    setup-requires
-    enum-known-a
+    run-input-requires
+    enum-known-r
     refusal-number-requires
     cast-result
-    enum-known-a-2
-    sub-run-free
-    part-run-free-start
-    part-run-free-end
-    run-free-requires
+    enum-known-report
     six-requires
-    returns
     same-length
     same-length-2
+    returns
+    same-length-3
+    same-length-4
     returns-2)

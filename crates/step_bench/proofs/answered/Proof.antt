@@ -1,7 +1,7 @@
 -- `answered`: an accepted setup leaves a schedule. Assumes nothing.
 use borrow.Author.Needs.{needs}
 use mathlib.Core.Path.{sym, ap, _∙_}
-use Rattle.cells.proofs.Used.{setup-uses}
+use Rattle.cells.proofs.Setups.{setup-uses}
 use Rattle.step_bench.proofs.answered.Statement.{statement}
 use Rattle.step_bench.proofs.answered.Tie as tie
 

@@ -1,13 +1,14 @@
 -- `Machine::apply`: the entry is decided, and a deed is written where it belongs. Assumes nothing.
 use Prim.Native.Nat.{ℕ, min}
-use mathlib.Core.Path.{_≡_, sym, ap, _∙_}
+use mathlib.Core.Path.{_≡_, refl, sym, ap, _∙_}
 use lib.ListN.{getD}
 use Rattle.tasks.specs.Records.{noTask}
+use Rattle.tables.specs.Tables.{putIn}
 use Rattle.tables.proofs.Laws.{length-mapped}
-use Rattle.cells.specs.Types.{Machine, Replied}
-use Rattle.cells.proofs.Decide.{Known, applied-refuses, applied-does, named}
-use Rattle.cells.specs.Machine.{Long}
-use Rattle.cells.proofs.Written.{put-written}
+use Rattle.cells.specs.Types.{Write}
+use Rattle.cells.proofs.Decide.{Known, applied, named}
+use Rattle.cells.specs.Machine.{cellsBy, valuesBy, countsBy, freeBy, Long}
+use Rattle.cells.proofs.Written.{put-carried}
 use borrow.Author.Needs.{needs}
 use Rattle.cells.proofs.Machine.apply.Statement.{statement}
 use Rattle.cells.proofs.Machine.apply.Tie as tie
@@ -46,11 +47,14 @@ place c = slotted c .slot .ensures ∙ ap (λ (b : ℕ). min b 15) (slotted c .b
 known : (c : tie.After-decided) → Known (start c .args .t1) (start c .args .s .now) (getD (start c .args .t1 .tasks) (slotted c .slot .result) noTask) (c .before .before .before .before .before .before .before .before .tasks-ok .result)
 known c = record { task = ap (λ (k : ℕ). getD (start c .args .t1 .tasks) k noTask) (place c); ranges = c .before .before .before .before .before .before .before .before .tasks-ok .ensures }
 
-enum-known-effect : tie.Need-enum-known-effect
-enum-known-effect c = search needs
+task-by-requires : tie.Need-task-by-requires
+task-by-requires c κs = search needs
 
-enum-known-effect-2 : tie.Need-enum-known-effect-2
-enum-known-effect-2 c = search needs
+write-by-requires : tie.Need-write-by-requires
+write-by-requires c κs = search needs
+
+answer-by-requires : tie.Need-answer-by-requires
+answer-by-requires c κs = search needs
 
 mul-u : tie.Need-mul-u
 mul-u c = search needs
@@ -71,16 +75,14 @@ write-free-requires : tie.Need-write-free-requires
 write-free-requires c κs = search needs
 
 returns : tie.Need-returns
-returns c = let d = c .before .before .before in
-    sym (applied-refuses _ _ _ _ (known d) _ (d .decided .ensures) _ (c .before .effect .given .1))
-
-returns-2 : tie.Need-returns-2
-returns-2 c = let d = c .before .before .before .before .before .before .before .before .before .before .before in
-    let deed = c .before .before .before .before .before .before .before .before .before .effect2 .given .0 .0 in
-    let does = c .before .before .before .before .before .before .before .before .before .effect2 .given .1 in
-    let own = place d ∙ named _ _ _ _ (known d) _ (d .decided .ensures) deed does .1 in
-    let after = put-written (start d .args .t1) (long (start d)) (deed .write) (deed .task) _ _ own _ _ _ _ (c .before .before .before .before .before .write-cells .ensures) (c .before .before .before .write-values .ensures) (c .before .write-counts .ensures) (c .write-free .ensures) in
-    ap (λ (m : Machine). record { machine = m; answer = Replied (deed .reply); task = d .decided .result .task }) after ∙ sym (applied-does _ _ _ _ (known d) _ (d .decided .ensures) deed does)
+returns c = let d = c .before .before .before .before .before .before .before .before .before .before in
+    let m = start d .args .t1 in
+    let w = c .before .before .before .before .before .before .before .before .write-by .ensures in
+    put-carried m (long (start d)) (d .decided .result .effect) _ (d .decided .result .task) (λ y does. place d ∙ named _ _ _ _ (known d) _ (d .decided .ensures) y does .1) _ refl
+    _ (c .before .before .before .before .before .before .before .before .before .task-by .ensures) _ (c .before .before .before .before .before .before .before .answer-by .ensures) _ _ _ _
+    (c .before .before .before .before .before .write-cells .ensures ∙ ap (λ (x : Write). cellsBy (putIn 64) x (m .cells)) w) (c .before .before .before .write-values .ensures ∙ ap (λ (x : Write). valuesBy (putIn 128) x (m .values)) w)
+    (c .before .write-counts .ensures ∙ ap (λ (x : Write). countsBy (putIn 128) x (m .counts)) w) (c .write-free .ensures ∙ ap (λ (x : Write). freeBy x (m .free)) w)
+    ∙ sym (applied _ _ _ _ (known d) _ (d .decided .ensures))
 
 pub apply-spec : {M : Type 1} → statement M
 apply-spec =
@@ -92,13 +94,13 @@ apply-spec =
     element-copy-out-t
     tasks-ok-requires
     decided-requires
-    enum-known-effect
-    enum-known-effect-2
+    task-by-requires
+    write-by-requires
+    answer-by-requires
     mul-u
     element-set-from-u
     write-cells-requires
     write-values-requires
     write-counts-requires
     write-free-requires
-    returns
-    returns-2)
+    returns)
