@@ -1,8 +1,9 @@
 /*
  * The proved step bench for C. Link target/staticlib/libkemilunda.a, which
  * `rt staticlib kemilunda` makes. It keeps no state, and asks the linker for
- * memcpy, memset, memmove and memcmp at most (tests/link/run looks). A run takes
- * some 5.5 KB of stack (docs/SPEED.md).
+ * memcpy, memset, memmove and memcmp at most (tests/link/run looks). A setup and
+ * its run take less than 2 KiB of stack, any other function less than 256 bytes
+ * (tests/speed/stack looks; docs/SPEED.md has the figures).
  *
  * Every function takes any bytes at all. What each one gives is proved; the
  * proofs are about the Rattle source, not about this file or the compiler.

@@ -59,7 +59,7 @@ pub struct SetUp {
     pub answer: SetupAnswer,
 }
 
-// A setup's answer, and the sizes of the machine that it gives: a refused one has sizes of 0.
+// A setup's answer and the sizes of its machine, which are 0 if it is refused.
 pub struct Head {
     pub n: u8,
     pub p: u8,
@@ -67,7 +67,7 @@ pub struct Head {
     pub answer: SetupAnswer,
 }
 
-// What a setup gives beside the three tables.
+// A setup's machine but for its three tables, and the answer.
 pub struct Laid {
     pub n: u8,
     pub p: u8,
@@ -112,7 +112,7 @@ fn refused_head(r: Refusal) -> Head
     }
 }
 
-// The refusals of a setup record's bytes, or its sizes and how many bytes it uses. No table is built.
+// The refusals of a setup record's bytes, or its sizes and the bytes used. No table is filled: so a caller who asks for no machine pays for none.
 pub fn setup_head(s: &[u8]) -> Head
     ensures { λ r. ⌜ r ≡ headOf (setupOf (now (s .entry))) ⌝ }
 {
@@ -144,7 +144,7 @@ pub fn setup_head(s: &[u8]) -> Head
     }
 }
 
-// The machine of a setup record's bytes, in lent tables: what they held before is gone. A refused setup leaves zeros, the machine of no cells, tasks and nodes.
+// The one place where a machine is set up: in lent tables, whatever they held, so that nobody needs a record to start from. A refused setup leaves all zeros, as one of no cells, tasks and nodes would.
 pub fn setup_tables(
     s: &[u8],
     cells: &mut [u8; 64],
@@ -177,7 +177,7 @@ pub fn setup_tables(
 }
 
 impl Machine {
-    // The machine of a setup record's bytes. A refused one hands back a record of all zeros.
+    // The machine of a setup record's bytes. A refused one hands back a record of all zeros. The record is put together once, at the one way out: another would be another copy of it.
     pub fn setup(s: &[u8]) -> SetUp
         ensures { λ r. ⌜ r ≡ setupOf (now (s .entry)) ⌝ }
     {
@@ -358,7 +358,7 @@ pub fn write_free(free: u8, w: Write) -> u8
     }
 }
 
-// What an effect leaves of its task's record, the one place that it writes, and its answer: a refusal leaves the record and writes nothing.
+// The record that an effect leaves its task, the one place that it writes, and its answer. A refusal leaves the record and writes nothing.
 
 fn task_by(e: Effect, t: Task) -> Task
     ensures { λ r. ⌜ r ≡ taskBy e t ⌝ }
@@ -409,7 +409,7 @@ impl Machine {
         tables::tasks_ok(ts, self.n, self.p, self.k)
     }
 
-    // One schedule entry, from its bytes: it is decided, and then written back in place. A refused entry hands the record back unchanged.
+    // One schedule entry, from its bytes: it is decided, and then written back. A refused entry hands the record back unchanged.
     pub fn apply(mut self, s: &[u8]) -> Applied
         ensures { λ r. ⌜ r ≡ applyOf self (now (s .entry)) ⌝ }
     {
@@ -431,10 +431,12 @@ impl Machine {
         );
         let i = d.task;
         let effect = d.effect;
+        // all that is held of the step: the task's record and one place. Refused or not there is one way out, as another would be another copy of `self`
         let u = task_by(effect, t);
         let w = write_by(effect);
         let answer = answer_by(effect);
         self.tasks[j] = u;
+        // as `turns::carry` does, but one after the other: three fields of one struct can't be lent in one call
         write_cells(&mut self.cells, w);
         write_values(&mut self.values, w);
         write_counts(&mut self.counts, w);

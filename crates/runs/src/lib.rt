@@ -1,4 +1,4 @@
-// A whole schedule from bytes over a machine record: one reply an entry, the six numbers, and how many nodes are free after each entry.
+// A whole schedule from bytes, over a machine's record or after its setup's bytes: one reply an entry, the six numbers, and how many nodes are free after each entry.
 use answers::Answer;
 use answers::Refusal;
 use cells::Machine;
@@ -324,7 +324,7 @@ pub enum Outcome {
     Reported(Report),
 }
 
-// A setup and its schedule from bytes, as `Machine::setup` and `run_free` have it, without a record: the tables lie here, and are lent to both.
+// A setup and its schedule from bytes, as `Machine::setup` and `run_free` have it. There is no record: the tables lie here once, and are lent to the setup and then to the run.
 pub fn run_input(input: &[u8], out: &mut [u8], free_nodes: &mut [u8]) -> Outcome
     ensures { λ r. ⌜ (r ≡ outcomeOf (now (input .entry)) (length (now (out .entry)))) × (now (out .exit) ≡ repliesAfter (now (input .entry)) (now (out .entry))) × (now («free_nodes» .exit) ≡ freeNodesAfter (now (input .entry)) (length (now (out .entry))) (now («free_nodes» .entry))) ⌝ }
 {

@@ -35,7 +35,7 @@ fn refused(t: Task, free: u8, r: Refusal) -> Turned
     }
 }
 
-// The one place where a run writes back what an entry does. A refusal writes nothing.
+// The one place where a run writes back what an entry does. It holds the task's record and the one place that changes; the rest stays in the lent tables, of which no copy is made. A refusal writes nothing.
 pub fn carry(
     cells: &mut [u8; 64],
     values: &mut [u32; 128],
