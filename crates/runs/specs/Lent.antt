@@ -1,15 +1,7 @@
 -- A run over lent tables: the record that they and the rest come to, and what is left of it.
 use Prim.Native.Nat.{ℕ}
-use mathlib.Core.Path.{_≡_}
 use mathlib.Core.List.{List}
-use lib.ListN.{length}
 use Rattle.runs.specs.Types.{Task, Machine, Report, Ran, Left}
-
--- the tables have their lengths, as their types say
-pub record Lengths (cells values counts : List ℕ) : Type 0 where
-  pub cells-long : length cells ≡ 64
-  pub values-long : length values ≡ 128
-  pub counts-long : length counts ≡ 128
 
 abbrev pub madeOf : ℕ → ℕ → ℕ → ℕ → List ℕ → List ℕ → List ℕ → List Task → Machine
 madeOf n p k free cells values counts tasks = record { n = n; p = p; k = k; free = free; cells = cells; values = values; counts = counts; tasks = tasks }

@@ -12,11 +12,11 @@ ghost use lib.ListN.{length, set};
 ghost use Rattle.answers.specs.Numbers.{refusalNumber};
 ghost use Rattle.wire.specs.Bytes.{replyOf, overlaid};
 ghost use mathlib.Core.Bool.{true};
-ghost use Rattle.cells.specs.Machine.{inRange};
+ghost use Rattle.cells.specs.Machine.{inRange, Long};
 ghost use Rattle.cells.specs.Free.{freeOf, freeValue};
 ghost use Rattle.entries.specs.Schedule.{entriesIn, entriesOf};
 ghost use Rattle.runs.specs.Run.{repliesFrom, notesFrom, notedBy, reportOf, refusedAt, ranFrom, ranOf, bufferOf, notedOf};
-ghost use Rattle.runs.specs.Lent.{Lengths, madeOf, leftWith, leftRan};
+ghost use Rattle.runs.specs.Lent.{madeOf, leftWith, leftRan};
 ghost use Rattle.runs.specs.Input.{outcomeOf, repliesAfter, freeNodesAfter};
 ghost use Rattle.runs.specs.OneEntry.{loadBegun, loadStep, wentOf, countedBy, Few};
 
@@ -153,7 +153,7 @@ fn run_tables(
     out: &mut [u8],
     free_nodes: &mut [u8],
 ) -> Left
-    requires { ⌜ (length (now s) ≤ 65530) × (8 * entriesIn (now s) ≤ length (now out)) × Lengths (now cells) (now values) (now counts) × (inRange (madeOf n p k free (now cells) (now values) (now counts) ts) ≡ true) ⌝ }
+    requires { ⌜ (length (now s) ≤ 65530) × (8 * entriesIn (now s) ≤ length (now out)) × Long (madeOf n p k free (now cells) (now values) (now counts) ts) × (inRange (madeOf n p k free (now cells) (now values) (now counts) ts) ≡ true) ⌝ }
     ensures { λ r. ⌜ (leftRan n p k (now (cells .exit)) (now (values .exit)) (now (counts .exit)) r ≡ ranFrom (madeOf n p k free (now (cells .entry)) (now (values .entry)) (now (counts .entry)) ts) (reportOf 0) (entriesOf (now (s .entry)))) × (now (out .exit) ≡ overlaid (now (out .entry)) 0 (repliesFrom (madeOf n p k free (now (cells .entry)) (now (values .entry)) (now (counts .entry)) ts) (entriesOf (now (s .entry))))) × (now («free_nodes» .exit) ≡ notedBy (notesFrom (madeOf n p k free (now (cells .entry)) (now (values .entry)) (now (counts .entry)) ts) (entriesOf (now (s .entry)))) (now («free_nodes» .entry))) ⌝ }
 {
     let len = s.len();
@@ -253,7 +253,7 @@ fn run_lent(
     out: &mut [u8],
     free_nodes: &mut [u8],
 ) -> Left
-    requires { ⌜ Lengths (now cells) (now values) (now counts) ⌝ }
+    requires { ⌜ Long (madeOf n p k free (now cells) (now values) (now counts) ts) ⌝ }
     ensures { λ r. ⌜ (leftRan n p k (now (cells .exit)) (now (values .exit)) (now (counts .exit)) r ≡ ranOf (madeOf n p k free (now (cells .entry)) (now (values .entry)) (now (counts .entry)) ts) (now (s .entry)) (length (now (out .entry)))) × (now (out .exit) ≡ bufferOf (madeOf n p k free (now (cells .entry)) (now (values .entry)) (now (counts .entry)) ts) (now (s .entry)) (now (out .entry))) × (now («free_nodes» .exit) ≡ notedOf (madeOf n p k free (now (cells .entry)) (now (values .entry)) (now (counts .entry)) ts) (now (s .entry)) (length (now (out .entry))) (now («free_nodes» .entry))) ⌝ }
 {
     if !cells::tables_ok(n, p, k, free, cells, counts) {

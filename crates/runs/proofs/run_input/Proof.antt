@@ -1,11 +1,11 @@
 -- `run_input`: a refused setup leaves both buffers; an accepted one's tables are lent to the run of what follows it. Assumes nothing.
 use Prim.Native.Nat.{ℕ}
-use mathlib.Core.Path.{_≡_, sym, ap, _∙_}
+use mathlib.Core.Path.{_≡_, sym, ap, _∙_, subst}
 use mathlib.Core.List.{List}
-use lib.ListN.{length}
 use Rattle.tallies.proofs.Lists.{part}
 use Rattle.cells.specs.declared.SetUp.{SetUp}
 use Rattle.cells.specs.declared.Laid.{Laid}
+use Rattle.cells.specs.Machine.{Long}
 use Rattle.cells.specs.Setup.{setupOf, laidOf}
 use Rattle.cells.proofs.Setups.{setup-long, setup-uses}
 use Rattle.runs.specs.Types.{Ran, Ready, Reported}
@@ -46,9 +46,8 @@ part-run-lent-end c = search needs
 
 run-lent-requires : tie.Need-run-lent-requires
 run-lent-requires c κs = let d = c .before .before .before .before .before .before in
-    let made = d .before .before .before .before .setup-tables .ensures in
-    let long = setup-long (start d .args .input .now) in
-    record { cells-long = ap length (made .1) ∙ long .cells; values-long = ap length (made .2) ∙ long .values; counts-long = ap length (made .3) ∙ long .counts }
+    let e = d .before .before .before .before .setup-tables .ensures in
+    subst Long (sym (made (setupOf (start d .args .input .now)) _ _ _ _ (e .0) (e .1) (e .2) (e .3))) (setup-long (start d .args .input .now))
 
 returns : tie.Need-returns
 returns c = let refused = sym (ap (λ (x : Laid). x .answer) (c .before .before .before .setup-tables .ensures .0)) ∙ c .before .a .given .1 in

@@ -9,9 +9,7 @@ use borrow.Author.Needs.{needs}
 use borrow.Author.Tests.{not-true, not-false}
 use Rattle.wire.specs.Bytes.{entryMark, marked, wordAt, replyOf, overlaid}
 use Rattle.tasks.specs.Records.{noTask}
-use Rattle.tables.proofs.Laws.{length-mapped}
 use Rattle.entries.specs.Schedule.{entriesIn}
-use Rattle.cells.specs.Machine.{Long}
 use Rattle.runs.specs.Types.{Machine}
 use Rattle.runs.specs.Counts.{accepted}
 use Rattle.runs.specs.Run.{refusedAt}
@@ -32,9 +30,6 @@ abbrev μ-loop : tie.MeasureT-loop
 -- the record that the run starts from
 abbrev from : tie.Start Inv-loop μ-loop → Machine
 from c = madeOf (c .args .n) (c .args .p) (c .args .k) (c .args .free) (c .args .cells .now) (c .args .values .now) (c .args .counts .now) (c .args .ts)
-
-start-long : (c : tie.Start Inv-loop μ-loop) → Long (from c)
-start-long c = record { cells = c .pre .2 .cells-long; values = c .pre .2 .values-long; counts = c .pre .2 .counts-long; tasks = search (needs, length-mapped) }
 
 -- what is at hand when entry i of the bytes s is due: the record m, and the part x of the bytes
 module _ (b : tie.In-loop Inv-loop μ-loop) where
@@ -97,7 +92,7 @@ no-report-requires c κs = search needs
 
 loop-holds : tie.Need-loop-holds Inv-loop μ-loop
 loop-holds c = let a = c .before .before .before .before in
-    rw (c .no-report .ensures) (record { going = starts (a .args .s .now) (a .args .out .now) (a .args .free-nodes .now) (from a); long = start-long a; sound = a .pre .3 })
+    rw (c .no-report .ensures) (record { going = starts (a .args .s .now) (a .args .out .now) (a .args .free-nodes .now) (from a); long = a .pre .2; sound = a .pre .3 })
 
 mul-at : tie.Need-mul-at Inv-loop μ-loop
 mul-at c = omega (arith, begun c .pre .0)
