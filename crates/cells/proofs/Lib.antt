@@ -1,5 +1,6 @@
 pub mod Decide
 pub mod Written
+pub mod Fresh
 pub mod Setups
 pub mod Ranges
 pub mod Untested

@@ -1,21 +1,22 @@
 -- What holds of every setup: its machine is the fresh one of its own sizes, which fit the tables, and it uses no more bytes than there are. Assumes nothing.
 use Prim.Native.Nat.{ℕ, _+_, _-_, _*_, _≤_, min}
-use mathlib.Core.Path.{_≡_, refl, _∙_, subst}
-use mathlib.Core.Bool.{false, not}
+use mathlib.Core.Path.{_≡_, refl, subst}
+use mathlib.Core.Bool.{Bool, true, false, not}
 use mathlib.Core.List.{List}
 use native.Mathlib.Omega.{arith}
 use lib.Dec.{eqb, ltb}
-use lib.ListN.{length, getD, replicate, length-replicate}
+use lib.ListN.{length, getD, replicate}
 use borrow.Author.Tests.{ltb-false, not-false}
 use Rattle.tallies.specs.Lists.{fillTo}
-use Rattle.tallies.proofs.Lists.{by-test, fill-length}
+use Rattle.tallies.proofs.Lists.{by-test}
 use Rattle.wire.specs.Bytes.{setupMark, marked}
 use Rattle.tasks.specs.Records.{nodeNo, noTask, idleOwning}
 use Rattle.tables.specs.Tables.{sizesOk, valueGiven}
 use Rattle.tables.proofs.Laws.{sizes-bounds}
-use Rattle.cells.specs.Types.{Machine, Task, SetUp, Head, Refusal, Ready}
+use Rattle.cells.specs.Types.{Machine, Task, SetUp, Head, Refusal, Sizes, NotZero, WrongMark, TooShort, Ready}
 use Rattle.cells.specs.Machine.{Long}
 use Rattle.cells.specs.Setup.{freshOf, refusedSetup, setupOf, headOf}
+use Rattle.cells.proofs.Fresh.{fresh-long}
 
 -- the sizes have room in the tables
 abbrev pub Fits : Head → Type 0
@@ -23,20 +24,46 @@ Fits h = (h .n ≤ 64) × (h .p ≤ 16) × (h .n + 2 * h .p ≤ h .k)
 
 module _ (s : List ℕ) where
   -- the one setup that is not refused
-  abbrev accepted : SetUp
+  abbrev pub accepted : SetUp
   accepted = record { machine = freshOf (getD s 2 0) (getD s 3 0) (getD s 4 0) s; answer = Ready (6 + 4 * getD s 2 0) }
 
-  -- it is enough to look at a refusal and at that one
-  by-setup : (P : SetUp → Type 0) → ((r : Refusal) → P (refusedSetup r))
-      → (not (sizesOk (getD s 2 0) (getD s 3 0) (getD s 4 0)) ≡ false → ltb (length s) (6 + 4 * getD s 2 0) ≡ false → P accepted)
-      → P (setupOf s)
+  -- the tests in their order, each true if it refuses
+  abbrev pub no-head : Bool
+  no-head = ltb (length s) 6
+
+  abbrev pub unmarked : Bool
+  unmarked = not (marked setupMark s)
+
+  abbrev pub not-zero : Bool
+  not-zero = not (eqb (getD s 5 0) 0)
+
+  abbrev pub no-sizes : Bool
+  no-sizes = not (sizesOk (getD s 2 0) (getD s 3 0) (getD s 4 0))
+
+  abbrev pub no-values : Bool
+  no-values = ltb (length s) (6 + 4 * getD s 2 0)
+
+  -- what holds after each test holds of the setup
+  pub by-tests : (R : SetUp → Type 0)
+      → (no-head ≡ true → R (refusedSetup TooShort))
+      → (no-head ≡ false → unmarked ≡ true → R (refusedSetup WrongMark))
+      → (no-head ≡ false → unmarked ≡ false → not-zero ≡ true → R (refusedSetup NotZero))
+      → (no-head ≡ false → unmarked ≡ false → not-zero ≡ false → no-sizes ≡ true → R (refusedSetup Sizes))
+      → (no-head ≡ false → unmarked ≡ false → not-zero ≡ false → no-sizes ≡ false → no-values ≡ true → R (refusedSetup TooShort))
+      → (no-head ≡ false → unmarked ≡ false → not-zero ≡ false → no-sizes ≡ false → no-values ≡ false → R accepted)
+      → R (setupOf s)
   unfolding setupOf
-  by-setup P refused ready =
-      by-test P (ltb (length s) 6) _ _ (λ a. refused _)
-      (λ a. by-test P (not (marked setupMark s)) _ _ (λ b. refused _)
-      (λ b. by-test P (not (eqb (getD s 5 0) 0)) _ _ (λ c. refused _)
-      (λ c. by-test P (not (sizesOk (getD s 2 0) (getD s 3 0) (getD s 4 0))) _ _ (λ d. refused _)
-      (λ d. by-test P (ltb (length s) (6 + 4 * getD s 2 0)) _ _ (λ e. refused _) (λ e. ready d e)))))
+  by-tests R short mark spare sizes cut ready =
+      by-test R no-head _ _ short
+      (λ a. by-test R unmarked _ _ (mark a)
+      (λ b. by-test R not-zero _ _ (spare a b)
+      (λ c. by-test R no-sizes _ _ (sizes a b c)
+      (λ d. by-test R no-values _ _ (cut a b c d) (ready a b c d)))))
+
+  -- it is enough to look at a refusal and at the setup that is accepted
+  pub refused-or-ready : (R : SetUp → Type 0) → ((r : Refusal) → R (refusedSetup r)) → (no-sizes ≡ false → no-values ≡ false → R accepted) → R (setupOf s)
+  refused-or-ready R refused ready =
+      by-tests R (λ a. refused _) (λ a b. refused _) (λ a b c. refused _) (λ a b c d. refused _) (λ a b c d e. refused _) (λ a b c d e. ready d e)
 
   abbrev Fresh : Machine → Type 0
   Fresh m = freshOf (m .n) (m .p) (m .k) s ≡ m
@@ -50,29 +77,18 @@ module _ (s : List ℕ) where
   unfolding freshOf
   accepted-fresh = refl
 
-  -- a table that is filled keeps its length
-  fresh-long : (n p k : ℕ) → Long (freshOf n p k s)
-  unfolding freshOf
-  fresh-long n p k =
-      record {
-        cells = fill-length _ n (replicate 64 0) ∙ length-replicate {A = ℕ} 64 0;
-        values = fill-length _ n (replicate 128 0) ∙ length-replicate {A = ℕ} 128 0;
-        counts = fill-length _ (n + p) (replicate 128 0) ∙ length-replicate {A = ℕ} 128 0;
-        tasks = fill-length _ p (replicate 16 noTask) ∙ length-replicate 16 noTask;
-      }
+  pub setup-fresh : Fresh (setupOf s .machine)
+  setup-fresh = refused-or-ready (λ x. Fresh (x .machine)) refused-fresh (λ d e. accepted-fresh)
 
-  setup-fresh : Fresh (setupOf s .machine)
-  setup-fresh = by-setup (λ x. Fresh (x .machine)) refused-fresh (λ d e. accepted-fresh)
-
-  accepted-fits : not (sizesOk (getD s 2 0) (getD s 3 0) (getD s 4 0)) ≡ false → Fits (headOf accepted)
+  accepted-fits : no-sizes ≡ false → Fits (headOf accepted)
   unfolding freshOf
   accepted-fits d = let z = sizes-bounds (getD s 2 0) (getD s 3 0) (getD s 4 0) (not-false _ d) in (z .1, z .3, z .4)
 
   setup-fits : Fits (headOf (setupOf s))
-  setup-fits = by-setup (λ x. Fits (headOf x)) (λ r. (omega arith, omega arith, omega arith)) (λ d e. accepted-fits d)
+  setup-fits = refused-or-ready (λ x. Fits (headOf x)) (λ r. (omega arith, omega arith, omega arith)) (λ d e. accepted-fits d)
 
   pub setup-long : Long (setupOf s .machine)
-  setup-long = rw (← setup-fresh) (fresh-long (setupOf s .machine .n) (setupOf s .machine .p) (setupOf s .machine .k))
+  setup-long = rw (← setup-fresh) (fresh-long (setupOf s .machine .n) (setupOf s .machine .p) (setupOf s .machine .k) s)
 
   -- the head's sizes, and the tables filled by them
   module _ (h : Head) (is : h ≡ headOf (setupOf s)) where
@@ -94,6 +110,6 @@ module _ (s : List ℕ) where
 
   pub setup-uses : (u : ℕ) → setupOf s .answer ≡ Ready u → u ≤ length s
   setup-uses =
-      by-setup (λ x. (u : ℕ) → x .answer ≡ Ready u → u ≤ length s)
+      refused-or-ready (λ x. (u : ℕ) → x .answer ≡ Ready u → u ≤ length s)
       (λ r u h. let z : _≡_ {A = ℕ} 0 1 = cc in absurd (omega arith))
       (λ d e u h. let used : 6 + 4 * getD s 2 0 ≡ u = cc in subst (λ (k : ℕ). k ≤ length s) used (ltb-false (length s) (6 + 4 * getD s 2 0) e))

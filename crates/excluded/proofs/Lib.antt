@@ -4,3 +4,5 @@ pub mod Entries
 pub mod Cells
 pub mod Turns
 pub mod Runs
+pub mod Setups
+pub mod Inputs

@@ -9,6 +9,10 @@ use Rattle.steps.specs.Table.{answerOf}
 use Rattle.entries.specs.declared.Asked.{Asked}
 use Rattle.entries.specs.declared.Asked.the-variants.{ToGo, ToLoad, ToStore, ToRelease, ToValidate, Faulty}
 use Rattle.cells.specs.Machine.{cellsBy, valuesBy, countsBy, freeBy, taskBy, writeBy}
+use Rattle.runs.specs.declared.Report.{Report}
+use Rattle.runs.specs.declared.Outcome.{Outcome}
+use Rattle.runs.specs.declared.Outcome.the-variants.{Refused as NotRun, Reported}
+use Rattle.runs.specs.Run.{reportOf}
 use Rattle.excluded.specs.Records.{cells, values, counts}
 
 -- the task's record that an effect leaves; all zero if it is a refusal
@@ -67,3 +71,8 @@ kindAsked (ToStore x y) = 2
 kindAsked ToRelease = 3
 kindAsked ToValidate = 4
 kindAsked (Faulty r) = 5
+
+-- the report of an outcome: of a refused setup its refusal, and no entries
+abbrev pub reportTold : Outcome → Report
+reportTold (NotRun r) = reportOf (refusalNumber r)
+reportTold (Reported x) = x

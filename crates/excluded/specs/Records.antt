@@ -73,6 +73,10 @@ seeking = withTask fresh 1 (withFields 12 (cellNo 0) 9 (nodeNo 0) (nodeNo 2) (no
 abbrev pub nothingToLower : Machine
 nothingToLower = withTask fresh 1 (withFields 5 (cellNo 0) 0 (nodeNo 3) (nodeNo 2) (nodeNo 0))
 
+-- in range: task 1 in phase f of a store of 9 to the cell, linked by node 0, at which the cell still is
+abbrev pub inStore : ℕ → Machine
+inStore f = withTask fresh 1 (withFields f (cellNo 0) 9 (nodeNo 0) (nodeNo 2) (nodeNo 0))
+
 -- the record of a task in phase f: x is cell 0, Y 9, m node 3, own node 1, cursor node 4
 abbrev pub at : ℕ → Task
 at f = withFields f (cellNo 0) 9 (nodeNo 3) (nodeNo 1) (nodeNo 4)

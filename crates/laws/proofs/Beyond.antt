@@ -6,13 +6,13 @@ use mathlib.Core.Path.{_≡_, refl, sym, ap, _∙_, subst}
 use mathlib.Core.Bool.{Bool, true}
 use mathlib.Core.List.{List, [], _∷_}
 use lib.Dec.{leb, ltb}
-use lib.ListN.{length, getD, set, replicate, length-set, length-replicate, getD-replicate, List·getD-eq-default}
+use lib.ListN.{length, getD, set, length-set}
 use lib.Seq.{getD-set-same, getD-set-other, set-out}
 use borrow.Author.Tests.{le-leb}
 use Rattle.tallies.specs.Lists.{every}
-use Rattle.tallies.proofs.Lists.{both, fill-past, every-at, every-same}
-use Rattle.tasks.specs.Records.{nodeNo, noTask, idleOwning, taskOk}
-use Rattle.tables.specs.Tables.{cellOk, countOk, taskOkIn, taskIn, valueGiven}
+use Rattle.tallies.proofs.Lists.{both, every-at, every-same}
+use Rattle.tasks.specs.Records.{nodeNo, noTask, taskOk}
+use Rattle.tables.specs.Tables.{cellOk, countOk, taskOkIn, taskIn}
 use Rattle.entries.specs.Entry.{entryOf}
 use Rattle.entries.specs.Order.{orderOf}
 use Rattle.cells.specs.Machine.{seenOf, cellsAfter, valuesAfter, countsAfter, written, carriedOf, tablesOk, inRange}
@@ -29,26 +29,20 @@ use Rattle.laws.proofs.Rows.{moves}
 use Rattle.laws.proofs.Keeps.{Proper}
 use Rattle.laws.proofs.Ranges.{task-in}
 use Rattle.laws.proofs.Table.{row-proper, entry-keeps}
+use Rattle.cells.proofs.Fresh.{fresh-cell-past, fresh-value-past, fresh-count-past, fresh-task-past}
 use Rattle.laws.proofs.Start.{Sizes, by-setup, setup-kept}
 use Rattle.laws.proofs.Reached.{scheduled}
 
 -- THEY STAY ZERO
 
-all-same : {A : Type 0} (n i : ℕ) (a : A) → getD (replicate n a) i a ≡ a
-all-same n i a =
-    elim (decLt i n) [
-      | yes h ↦ getD-replicate n i a a h
-      | no h ↦ List·getD-eq-default (replicate n a) a (omega (arith, length-replicate n a))
-    ]
-
 fresh-bare : (n p k : ℕ) (s : List ℕ) → Sizes n p k → Bare (freshOf n p k s)
 unfolding freshOf
 fresh-bare n p k s z =
     record {
-      cells = λ x h. fill-past (λ (i : ℕ). i) n (replicate 64 0) x 0 h ∙ all-same 64 x 0;
-      values = λ i h. fill-past (valueGiven s) n (replicate 128 0) i 0 (omega (arith, z .room)) ∙ all-same 128 i 0;
-      counts = λ i h. fill-past (λ (i : ℕ). 1) (n + p) (replicate 128 0) i 0 (omega (arith, z .room)) ∙ all-same 128 i 0;
-      tasks = λ q h. fill-past (λ (i : ℕ). idleOwning (nodeNo (n + i))) p (replicate 16 noTask) q noTask h ∙ all-same 16 q noTask;
+      cells = fresh-cell-past n p k s;
+      values = λ i h. fresh-value-past n p k s i (omega (arith, z .room));
+      counts = λ i h. fresh-count-past n p k s i (omega (arith, z .room));
+      tasks = fresh-task-past n p k s;
     }
 
 written-bare : (m : Machine) (q : TaskNo) (t : Task) (w : Write) → Bare m → q .0 < m .p → Proper m w → Bare (written m q t w)

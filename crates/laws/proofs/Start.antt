@@ -3,22 +3,23 @@ use Prim.Native.Nat.{ℕ, _+_, _-_, _*_, _≤_, _<_}
 use native.Mathlib.Omega.{arith}
 use native.Mathlib.Decide.{decLt}
 use mathlib.Core.Path.{_≡_, refl, sym, ap, _∙_}
-use mathlib.Core.Bool.{true, not}
+use mathlib.Core.Bool.{true}
 use mathlib.Core.List.{List}
 use lib.Dec.{eqb, leb, ltb}
-use lib.ListN.{length, getD, replicate, getD-replicate}
+use lib.ListN.{getD, replicate}
 use borrow.Author.Tests.{le-leb, lt-leb, lt-ltb, le-ltb, not-false}
 use Rattle.tallies.specs.Tally.{bit, total}
-use Rattle.tallies.proofs.Lists.{fill-length, fill-at, fill-past, by-test}
 use Rattle.tallies.proofs.Tally.{bit-le, tally-fill, total-at, total-join, total-same, total-split, total-zero}
-use Rattle.wire.specs.Bytes.{setupMark, marked}
 use Rattle.tasks.specs.Records.{nodeNo, noTask, idleOwning}
 use Rattle.tasks.specs.Holders.{keeps}
 use Rattle.tables.specs.Tables.{sizesOk, valueGiven}
 use Rattle.tables.proofs.Laws.{sizes-bounds}
+use Rattle.cells.specs.Machine.{Long}
 use Rattle.cells.specs.Setup.{blankOf, freshOf, setupOf}
+use Rattle.cells.proofs.Fresh.{fresh-long, fresh-cell, fresh-value, fresh-count, fresh-count-past, fresh-task}
+use Rattle.cells.proofs.Setups.{refused-or-ready}
 use Rattle.figure1.specs.Histories.{start}
-use Rattle.laws.specs.Types.{Refusal, Sizes as Bad, NotZero, WrongMark, TooShort, Task, Machine, SetUp, Ready, NotSetUp}
+use Rattle.laws.specs.Types.{Refusal, Task, Machine, Ready, NotSetUp}
 use Rattle.laws.specs.Meaning.{points, claims, pointers, claimers, keepers, free}
 use Rattle.laws.specs.Kept.{Kept}
 use Rattle.laws.specs.Acts.{Matches}
@@ -43,19 +44,16 @@ module _ (n p k : ℕ) (s : List ℕ) (z : Sizes n p k) where
   idle i = idleOwning (nodeNo (n + i))
 
   task-at : (q : ℕ) → q < p → getD (fresh .tasks) q noTask ≡ idle q
-  unfolding freshOf
-  task-at q h = fill-at idle p (replicate 16 noTask) q noTask h (z .tasks)
+  task-at q = fresh-task n p k s q (z .tasks)
 
-  cell-at : (x : ℕ) → x < n → getD (fresh .cells) x 0 ≡ x
-  unfolding freshOf
-  cell-at x h = fill-at (λ (i : ℕ). i) n (replicate 64 0) x 0 h (z .cells)
+  long : Long fresh
+  long = fresh-long n p k s
 
   count-at : (i : ℕ) → i < k → getD (fresh .counts) i 0 ≡ bit (ltb i (n + p))
-  unfolding freshOf
   count-at i h =
       elim (decLt i (n + p)) [
-        | yes l ↦ fill-at (λ (i : ℕ). 1) (n + p) (replicate 128 0) i 0 l (omega (arith, z .room, z .nodes)) ∙ rw (lt-ltb i (n + p) l)
-        | no l ↦ fill-past (λ (i : ℕ). 1) (n + p) (replicate 128 0) i 0 (omega arith) ∙ getD-replicate 128 i 0 0 (omega (arith, z .nodes)) ∙ rw (le-ltb i (n + p) (omega arith))
+        | yes l ↦ fresh-count n p k s i (omega (arith, z .room, z .nodes)) l ∙ rw (lt-ltb i (n + p) l)
+        | no l ↦ fresh-count-past n p k s i (omega arith) ∙ rw (le-ltb i (n + p) (omega arith))
       ]
 
   -- cell i points at node i and task i owns node n + i: each node below n + p once
@@ -103,17 +101,17 @@ module _ (n p k : ℕ) (s : List ℕ) (z : Sizes n p k) where
   unfolding freshOf
   fresh-kept = record {
     sound = record {
-      cells-length = fill-length (λ (i : ℕ). i) n (replicate 64 0);
-      values-length = fill-length (valueGiven s) n (replicate 128 0);
-      counts-length = fill-length (λ (i : ℕ). 1) (n + p) (replicate 128 0);
-      tasks-length = fill-length idle p (replicate 16 noTask);
+      cells-length = long .cells;
+      values-length = long .values;
+      counts-length = long .counts;
+      tasks-length = long .tasks;
       a-cell = z .a-cell;
       cells = z .cells;
       a-task = z .a-task;
       tasks = z .tasks;
       room = z .room;
       nodes = z .nodes;
-      pointed = λ x h. rw (cell-at x h) (omega (arith, z .room));
+      pointed = λ x h. rw (fresh-cell n p k s x (z .cells) h) (omega (arith, z .room));
       each = λ q h. rw (task-at q h) (record { phase = omega arith; cell = z .a-cell; held = omega (arith, z .room); own = omega (arith, z .room); cursor = omega (arith, z .room) });
     };
     free-counted = fresh-free;
@@ -126,28 +124,17 @@ module _ (n p k : ℕ) (s : List ℕ) (z : Sizes n p k) where
   pub fresh-matches : Matches fresh (start (valueGiven s))
   unfolding freshOf
   fresh-matches = record {
-    vals = λ x h. rw (cell-at x h) (fill-at (valueGiven s) n (replicate 128 0) x 0 h (omega (arith, z .cells)));
+    vals = λ x h. rw (fresh-cell n p k s x (z .cells) h) (fresh-value n p k s x (omega (arith, z .cells)) h);
     sets = λ x q hx hq. rw (task-at q hq) refl;
     calls = λ q hq. rw (task-at q hq) refl;
   }
 
 -- what holds of every fresh record holds of an accepted setup's
 module _ (s : List ℕ) (used : ℕ) (R : Machine → Type 0) (f : (n p k : ℕ) → Sizes n p k → R (freshOf n p k s)) where
-  abbrev Good : SetUp → Type 0
-  Good u = u .answer ≡ Ready used → R (u .machine)
-
-  no : {A : Type 0} (r : Refusal) → NotSetUp r ≡ Ready used → A
-  no r q = let z : _≡_ {A = ℕ} 0 1 = cc in absurd (omega arith)
-
-  pub by-setup : Good (setupOf s)
-  unfolding setupOf
+  pub by-setup : setupOf s .answer ≡ Ready used → R (setupOf s .machine)
   by-setup =
-      by-test Good (ltb (length s) 6) _ _ (λ a. no TooShort)
-      (λ a. by-test Good (not (marked setupMark s)) _ _ (λ b. no WrongMark)
-      (λ b. by-test Good (not (eqb (getD s 5 0) 0)) _ _ (λ c. no NotZero)
-      (λ c. by-test Good (not (sizesOk (getD s 2 0) (getD s 3 0) (getD s 4 0))) _ _ (λ d. no Bad)
-      (λ d. by-test Good (ltb (length s) (6 + 4 * getD s 2 0)) _ _ (λ e. no TooShort)
-      (λ e q. f _ _ _ (sizes (getD s 2 0) (getD s 3 0) (getD s 4 0) (not-false _ d)))))))
+      refused-or-ready s (λ x. x .answer ≡ Ready used → R (x .machine)) (λ r q. let z : _≡_ {A = ℕ} 0 1 = cc in absurd (omega arith))
+      (λ d e q. f _ _ _ (sizes (getD s 2 0) (getD s 3 0) (getD s 4 0) (not-false _ d)))
 
 pub setup-kept : (s : List ℕ) (used : ℕ) → setupOf s .answer ≡ Ready used → Kept (setupOf s .machine)
 setup-kept s used = by-setup s used Kept (λ n p k z. fresh-kept n p k s z)
@@ -157,16 +144,5 @@ setup-matches s used = by-setup s used (λ m. Matches m (start (valueGiven s))) 
 
 -- a refused setup's record is all zeros
 pub setup-blank : (s : List ℕ) (r : Refusal) → setupOf s .answer ≡ NotSetUp r → setupOf s .machine ≡ blankOf
-unfolding setupOf
 setup-blank s r =
-    by-test Blank (ltb (length s) 6) _ _ (λ a q. refl)
-    (λ a. by-test Blank (not (marked setupMark s)) _ _ (λ b q. refl)
-    (λ b. by-test Blank (not (eqb (getD s 5 0) 0)) _ _ (λ c q. refl)
-    (λ c. by-test Blank (not (sizesOk (getD s 2 0) (getD s 3 0) (getD s 4 0))) _ _ (λ d q. refl)
-    (λ d. by-test Blank (ltb (length s) (6 + 4 * getD s 2 0)) _ _ (λ e q. refl) (λ e. ready (6 + 4 * getD s 2 0))))))
-  where
-    Blank : SetUp → Type 0
-    Blank u = u .answer ≡ NotSetUp r → u .machine ≡ blankOf
-
-    ready : {A : Type 0} (used : ℕ) → Ready used ≡ NotSetUp r → A
-    ready used q = let z : _≡_ {A = ℕ} 0 1 = cc in absurd (omega arith)
+    refused-or-ready s (λ x. x .answer ≡ NotSetUp r → x .machine ≡ blankOf) (λ x q. refl) (λ d e q. let z : _≡_ {A = ℕ} 0 1 = cc in absurd (omega arith))

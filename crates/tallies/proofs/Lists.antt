@@ -5,7 +5,7 @@ use mathlib.Core.Logic.{_≢_, _⊎_, inl, inr}
 use mathlib.Core.Bool.{Bool, true, false, cond, _&&_, _||_, false≢true}
 use mathlib.Core.List.{List}
 use lib.Dec.{T}
-use lib.ListN.{length, getD, set, take, drop, length-set, length-drop}
+use lib.ListN.{length, getD, set, take, drop, replicate, length-set, length-drop, length-replicate, getD-replicate, List·getD-eq-default}
 use lib.Seq.{getD-set-same, getD-set-other, take-all}
 use native.Mathlib.Numerals.{add-one}
 use native.Mathlib.Omega.{arith}
@@ -93,6 +93,17 @@ fill-at f (suc n) l i d h k =
       | yes e ↦ rw e (getD-set-same (fillTo f n l) n (f n) d (omega (arith, fill-length f n l)))
       | no ne ↦ getD-set-other (fillTo f n l) n i (f n) d ne ∙ fill-at f n l i d (omega arith) (omega arith)
     ]
+
+all-same : {A : Type 0} (n i : ℕ) (a : A) → getD (replicate n a) i a ≡ a
+all-same n i a =
+    elim (decLt i n) [
+      | yes h ↦ getD-replicate n i a a h
+      | no h ↦ List·getD-eq-default (replicate n a) a (omega (arith, length-replicate n a))
+    ]
+
+-- a table of one value, filled up to a place: from there on it is as it was
+pub past-filled : {A : Type 0} (f : ℕ → A) (n len : ℕ) (a : A) (i : ℕ) → n ≤ i → getD (fillTo f n (replicate len a)) i a ≡ a
+past-filled f n len a i h = fill-past f n (replicate len a) i a h ∙ all-same len i a
 
 pub every-true : (f : ℕ → Bool) (n : ℕ) → ((i : ℕ) → i < n → f i ≡ true) → every f n ≡ true
 unfolding every

@@ -2,10 +2,6 @@
 use borrow.Author.Needs.{needs}
 use Rattle.kemilunda.proofs.kemilunda_export.Statement.{statement}
 use Rattle.kemilunda.proofs.kemilunda_export.Tie as tie
-use Rattle.kemilunda.proofs.kemilunda_export.Reads as reads
-use Rattle.kemilunda.proofs.kemilunda_export.Lts as lts
-use Rattle.kemilunda.proofs.told.Reads as told-reads
-use Rattle.texts.proofs.export.Reads as export-reads
 
 export-requires : tie.Need-export-requires
 export-requires c κs = search needs

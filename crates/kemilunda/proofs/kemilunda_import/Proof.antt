@@ -2,10 +2,6 @@
 use borrow.Author.Needs.{needs}
 use Rattle.kemilunda.proofs.kemilunda_import.Statement.{statement}
 use Rattle.kemilunda.proofs.kemilunda_import.Tie as tie
-use Rattle.kemilunda.proofs.kemilunda_import.Reads as reads
-use Rattle.kemilunda.proofs.kemilunda_import.Lts as lts
-use Rattle.kemilunda.proofs.told.Reads as told-reads
-use Rattle.texts.proofs.import.Reads as import-reads
 
 import-requires : tie.Need-import-requires
 import-requires c κs = search needs
