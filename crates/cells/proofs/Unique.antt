@@ -29,10 +29,10 @@ use Rattle.cells.proofs.Machine.holders.Kinds as holders·k
 use Rattle.cells.proofs.Machine.holders.Reads as holders
 use Rattle.cells.proofs.Machine.setup.Kinds as setup·k
 use Rattle.cells.proofs.Machine.setup.Reads as setup
-use Rattle.cells.proofs.setup_head.Kinds as setup-head·k
-use Rattle.cells.proofs.setup_head.Reads as setup-head
-use Rattle.cells.proofs.setup_tables.Kinds as setup-tables·k
-use Rattle.cells.proofs.setup_tables.Reads as setup-tables
+use Rattle.cells.proofs.start.read_head.Kinds as read-head·k
+use Rattle.cells.proofs.start.read_head.Reads as read-head
+use Rattle.cells.proofs.start.fill.Kinds as fill·k
+use Rattle.cells.proofs.start.fill.Reads as fill
 use Rattle.cells.proofs.setup_number.Kinds as setup-number·k
 use Rattle.cells.proofs.setup_number.Reads as setup-number
 use Rattle.cells.proofs.setup_bytes.Kinds as setup-bytes·k
@@ -80,11 +80,11 @@ holders-one κs a z z′ ws ws′ p q q′ = (q ∙ sym q′, refl)
 pub setup-one : One setup·k.ps setup·k.r setup.Pre setup.Post
 setup-one κs a z z′ ws ws′ p q q′ = (q ∙ sym q′, refl)
 
-pub setup-head-one : One setup-head·k.ps setup-head·k.r setup-head.Pre setup-head.Post
-setup-head-one κs a z z′ ws ws′ p q q′ = (q ∙ sym q′, refl)
+pub read-head-one : One read-head·k.ps read-head·k.r read-head.Pre read-head.Post
+read-head-one κs a z z′ ws ws′ p q q′ = (q ∙ sym q′, refl)
 
-pub setup-tables-one : One setup-tables·k.ps setup-tables·k.r setup-tables.Pre setup-tables.Post
-setup-tables-one κs a z z′ ws ws′ p q q′ = (q .0 ∙ sym (q′ .0), λ i. (ws .0, ((q .1 ∙ sym (q′ .1)) i, ((q .2 ∙ sym (q′ .2)) i, ((q .3 ∙ sym (q′ .3)) i, ws .1 .1 .1 .1)))))
+pub fill-one : One fill·k.ps fill·k.r fill.Pre fill.Post
+fill-one κs a z z′ ws ws′ p q q′ = (q .0 ∙ sym (q′ .0), λ i. (ws .0, ((q .1 ∙ sym (q′ .1)) i, ((q .2 ∙ sym (q′ .2)) i, ((q .3 ∙ sym (q′ .3)) i, ws .1 .1 .1 .1)))))
 
 pub setup-number-one : One setup-number·k.ps setup-number·k.r setup-number.Pre setup-number.Post
 setup-number-one κs a z z′ ws ws′ p q q′ = (q ∙ sym q′, refl)

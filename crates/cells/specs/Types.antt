@@ -19,7 +19,7 @@ pub use Rattle.cells.specs.declared.Decision.{Decision}
 pub use Rattle.cells.specs.declared.SetupAnswer.{SetupAnswer}
 pub use Rattle.cells.specs.declared.SetupAnswer.the-variants.{Ready, Refused as NotSetUp}
 pub use Rattle.cells.specs.declared.SetUp.{SetUp}
-pub use Rattle.cells.specs.declared.Head.{Head}
-pub use Rattle.cells.specs.declared.Laid.{Laid}
+pub use Rattle.cells.specs.declared.start.Head.{Head}
+pub use Rattle.cells.specs.declared.start.Laid.{Laid}
 pub use Rattle.cells.specs.declared.free.FreeCount.{FreeCount}
 pub use Rattle.cells.specs.declared.free.FreeCount.the-variants.{Free, Refused as Unanswered}

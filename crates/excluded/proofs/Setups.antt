@@ -20,13 +20,13 @@ use Rattle.cells.specs.declared.Machine.{Machine}
 use Rattle.cells.specs.declared.SetUp.{SetUp}
 use Rattle.cells.specs.declared.SetupAnswer.{SetupAnswer}
 use Rattle.cells.specs.declared.SetupAnswer.the-variants.{Ready, Refused as NotSetUp}
-use Rattle.cells.specs.declared.Head.{Head}
-use Rattle.cells.specs.declared.Laid.{Laid}
+use Rattle.cells.specs.declared.start.Head.{Head}
+use Rattle.cells.specs.declared.start.Laid.{Laid}
 use Rattle.cells.specs.Setup.{blankOf, freshOf, refusedSetup, setupOf, headOf}
 use Rattle.cells.proofs.Setups.{Fits, accepted, by-tests, setup-fresh, head-fits, setup-uses}
 use Rattle.cells.proofs.Fresh.{fresh-cell, fresh-cell-past, fresh-value, fresh-value-past, fresh-count, fresh-count-past, fresh-task}
-use Rattle.cells.proofs.setup_head.Reads as setup-head
-use Rattle.cells.proofs.setup_tables.Reads as setup-tables
+use Rattle.cells.proofs.start.read_head.Reads as read-head
+use Rattle.cells.proofs.start.fill.Reads as fill
 use Rattle.cells.proofs.Machine.setup.Reads as machine-setup
 use Rattle.laws.specs.Bytes.{words, setup}
 use Rattle.laws.specs.Small.{small}
@@ -107,7 +107,7 @@ takes n p k vs b l =
 module _ (κs : Lfts 1) (z : Head) where
   -- the head of the bytes s
   abbrev Heads : List ℕ → Type 0
-  Heads s = setup-head.Post κs (lent s, tt) z (lent s, tt)
+  Heads s = read-head.Post κs (lent s, tt) z (lent s, tt)
 
   answered : (s : List ℕ) (a : SetupAnswer) → Heads s → z .answer ≡ a → setupOf s .answer ≡ a
   answered s a q h = sym (ap (λ x. x .answer) q) ∙ h
@@ -214,7 +214,7 @@ module _ (s : List ℕ) where
 module _ (κs : Lfts 4) (z : Laid) (cs vs ns cells values counts : List ℕ) where
   -- the setup of the bytes s
   abbrev Lays : List ℕ → Type 0
-  Lays s = setup-tables.Post κs (lent s, (lent cs, (lent vs, (lent ns, tt)))) z (lent s, (lent cells, (lent values, (lent counts, tt))))
+  Lays s = fill.Post κs (lent s, (lent cs, (lent vs, (lent ns, tt)))) z (lent s, (lent cells, (lent values, (lent counts, tt))))
 
   blank : (s : List ℕ) (r : Refusal) → Lays s → z .answer ≡ NotSetUp r → setupOf s .machine ≡ blankOf
   blank s r q a = setup-blank s r (sym (ap (λ x. x .answer) (q .0)) ∙ a)

@@ -15,7 +15,7 @@ ghost use Rattle.kemilunda.specs.Exported.{setupRefusal, setupUsed, numb
 pub extern "C" fn kemilunda_setup(input: &[u8]) -> u32
     ensures { λ r. ⌜ r ≡ setupRefusal (now (input .entry)) ⌝ }
 {
-    let h = cells::setup_head(input);
+    let h = cells::start::read_head(input);
     let a = h.answer;
     cells::setup_number(a) as u32
 }
@@ -25,7 +25,7 @@ pub extern "C" fn kemilunda_setup(input: &[u8]) -> u32
 pub extern "C" fn kemilunda_setup_bytes(input: &[u8]) -> usize
     ensures { λ r. ⌜ r ≡ setupUsed (now (input .entry)) ⌝ }
 {
-    let h = cells::setup_head(input);
+    let h = cells::start::read_head(input);
     let a = h.answer;
     cells::setup_bytes(a)
 }

@@ -331,7 +331,7 @@ pub fn run_input(input: &[u8], out: &mut [u8], free_nodes: &mut [u8]) -> Outcome
     let mut cells: [u8; 64] = [0; 64];
     let mut values: [u32; 128] = [0; 128];
     let mut counts: [u8; 128] = [0; 128];
-    let m = cells::setup_tables(input, &mut cells, &mut values, &mut counts);
+    let m = cells::start::fill(input, &mut cells, &mut values, &mut counts);
     let a = m.answer;
     match a {
         SetupAnswer::Refused(r) => Outcome::Refused(r),

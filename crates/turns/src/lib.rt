@@ -136,7 +136,7 @@ fn row(
     }
 }
 
-// A go: the row of the task's phase, if the phase has one.
+// A go: the row of the task's phase, if the phase has one. For `apply`, which has no lent tables, `steps::step` asks the same rows.
 pub fn go(
     p: u8,
     k: u8,

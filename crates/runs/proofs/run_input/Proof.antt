@@ -4,7 +4,7 @@ use mathlib.Core.Path.{_≡_, sym, ap, _∙_, subst}
 use mathlib.Core.List.{List}
 use Rattle.tallies.proofs.Lists.{part}
 use Rattle.cells.specs.declared.SetUp.{SetUp}
-use Rattle.cells.specs.declared.Laid.{Laid}
+use Rattle.cells.specs.declared.start.Laid.{Laid}
 use Rattle.cells.specs.Machine.{Long}
 use Rattle.cells.specs.Setup.{setupOf, laidOf}
 use Rattle.cells.proofs.Setups.{setup-long, setup-uses}
@@ -14,8 +14,8 @@ use borrow.Author.Needs.{needs}
 use Rattle.runs.proofs.run_input.Statement.{statement}
 use Rattle.runs.proofs.run_input.Tie as tie
 
-setup-tables-requires : tie.Need-setup-tables-requires
-setup-tables-requires c κs = search needs
+fill-requires : tie.Need-fill-requires
+fill-requires c κs = search needs
 
 enum-known-a : tie.Need-enum-known-a
 enum-known-a c = search needs
@@ -28,7 +28,7 @@ abbrev start : tie.After-ts → tie.Start
 start c = c .before .before .before .before .before .before .before .before .before .before .before
 
 ready : (c : tie.After-ts) → setupOf (start c .args .input .now) .answer ≡ Ready (c .before .before .a2 .given .0 .0)
-ready c = sym (ap (λ (x : Laid). x .answer) (c .before .before .before .before .setup-tables .ensures .0)) ∙ c .before .before .a2 .given .1
+ready c = sym (ap (λ (x : Laid). x .answer) (c .before .before .before .before .fill .ensures .0)) ∙ c .before .before .a2 .given .1
 
 -- the lent tables and what is handed back beside them are the setup's machine
 made : (x : SetUp) (l : Laid) (cells values counts : List ℕ) → l ≡ laidOf x → cells ≡ x .machine .cells → values ≡ x .machine .values → counts ≡ x .machine .counts
@@ -46,11 +46,11 @@ part-run-lent-end c = search needs
 
 run-lent-requires : tie.Need-run-lent-requires
 run-lent-requires c κs = let d = c .before .before .before .before .before .before in
-    let e = d .before .before .before .before .setup-tables .ensures in
+    let e = d .before .before .before .before .fill .ensures in
     subst Long (sym (made (setupOf (start d .args .input .now)) _ _ _ _ (e .0) (e .1) (e .2) (e .3))) (setup-long (start d .args .input .now))
 
 returns : tie.Need-returns
-returns c = let refused = sym (ap (λ (x : Laid). x .answer) (c .before .before .before .setup-tables .ensures .0)) ∙ c .before .a .given .1 in
+returns c = let refused = sym (ap (λ (x : Laid). x .answer) (c .before .before .before .fill .ensures .0)) ∙ c .before .a .given .1 in
     (rw refused, rw refused, rw refused)
 
 same-length : tie.Need-same-length
@@ -63,7 +63,7 @@ returns-2 : tie.Need-returns-2
 returns-2 c = let d = c .before .before .before .before .before .before .before .before .before .before .before .before in
     let ran = c .before .before .before .before .before .run-lent .ensures in
     let p = part (start d .args .input .now) (d .before .before .a2 .given .0 .0) in
-    let e = d .before .before .before .before .setup-tables .ensures in
+    let e = d .before .before .before .before .fill .ensures in
     let m = made (setupOf (start d .args .input .now)) _ _ _ _ (e .0) (e .1) (e .2) (e .3) in
     (rw (ready d, ← p, ← m) (ap (λ (x : Ran). Reported (x .report)) (ran .0)), rw (ready d, ← p, ← m) (ran .1), rw (ready d, ← p, ← m) (ran .2))
 
@@ -71,7 +71,7 @@ pub run-input-spec : {M : Type 1} → statement M
 run-input-spec =
     tie.close
     (tie.spec
-    setup-tables-requires
+    fill-requires
     enum-known-a
     enum-known-a-2
     sub-run-lent

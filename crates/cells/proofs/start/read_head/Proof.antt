@@ -1,10 +1,10 @@
--- `setup_head`: the refusals, each where the ones before it did not apply. Assumes nothing.
+-- `start::read_head`: the refusals, each where the ones before it did not apply. Assumes nothing.
 use mathlib.Core.Path.{sym, _∙_}
 use borrow.Author.Tests.{eq-eqb, ne-eqb, lt-ltb, le-ltb, not-true, not-false}
 use Rattle.cells.specs.Setup.{freshOf, setupOf}
 use borrow.Author.Needs.{needs}
-use Rattle.cells.proofs.setup_head.Statement.{statement}
-use Rattle.cells.proofs.setup_head.Tie as tie
+use Rattle.cells.proofs.start.read_head.Statement.{statement}
+use Rattle.cells.proofs.start.read_head.Tie as tie
 
 refused-head-requires : tie.Need-refused-head-requires
 refused-head-requires c κs = search needs
@@ -70,8 +70,8 @@ unfolding setupOf freshOf
 returns-6 c = let d = c .before .before .before .before .before .before .before .before .before in
     rw (le-ltb _ 6 (d .before .before .if1 .left), sym (d .before .starts-with .ensures) ∙ not-false _ (d .if2 .left), eq-eqb _ 0 (c .before .before .before .before .before .before .before .if3 .left), sym (c .before .before .before .sizes-ok .ensures) ∙ not-false _ (c .before .before .if4 .left), ← c .before .setup-len .ensures, le-ltb _ _ (c .if5 .left))
 
-pub setup-head-spec : {M : Type 1} → statement M
-setup-head-spec =
+pub read-head-spec : {M : Type 1} → statement M
+read-head-spec =
     tie.close
     (tie.spec
     refused-head-requires

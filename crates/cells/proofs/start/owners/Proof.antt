@@ -1,4 +1,4 @@
--- `owners`: the tasks passed own their nodes. Assumes nothing.
+-- `start::owners`: the tasks passed own their nodes. Assumes nothing.
 use Prim.Native.Nat.{ℕ, _≤_, _-_, _+_, min}
 use mathlib.Core.Path.{_≡_}
 use lib.ListN.{replicate}
@@ -7,8 +7,8 @@ use Rattle.tallies.specs.Lists.{fillTo}
 use Rattle.tallies.proofs.Lists.{fill-none, fill-more}
 use Rattle.tasks.specs.Records.{nodeNo, noTask, idleOwning}
 use borrow.Author.Needs.{needs}
-use Rattle.cells.proofs.owners.Statement.{statement}
-use Rattle.cells.proofs.owners.Tie as tie
+use Rattle.cells.proofs.start.owners.Statement.{statement}
+use Rattle.cells.proofs.start.owners.Tie as tie
 
 abbrev Inv-loop : tie.InvT-loop
 Inv-loop n p ts₀ i₀ ts i = (i ≤ p) × (ts ≡ fillTo (λ (j : ℕ). idleOwning (nodeNo (n + j))) i (replicate 16 noTask))

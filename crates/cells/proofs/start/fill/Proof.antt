@@ -1,15 +1,15 @@
--- `setup_tables`: the sizes are the head's, and the tables are filled by them. Assumes nothing.
+-- `start::fill`: the sizes are the head's, and the tables are filled by them. Assumes nothing.
 use mathlib.Core.Path.{ap}
 use native.Mathlib.Omega.{arith}
 use Rattle.cells.specs.Types.{Machine}
 use Rattle.cells.specs.Setup.{laidOf}
 use Rattle.cells.proofs.Setups.{Fits, head-fits, laid}
 use borrow.Author.Needs.{needs}
-use Rattle.cells.proofs.setup_tables.Statement.{statement}
-use Rattle.cells.proofs.setup_tables.Tie as tie
+use Rattle.cells.proofs.start.fill.Statement.{statement}
+use Rattle.cells.proofs.start.fill.Tie as tie
 
-setup-head-requires : tie.Need-setup-head-requires
-setup-head-requires c κs = search needs
+read-head-requires : tie.Need-read-head-requires
+read-head-requires c κs = search needs
 
 point-cells-requires : tie.Need-point-cells-requires
 point-cells-requires c κs = search needs
@@ -18,8 +18,8 @@ give-values-requires : tie.Need-give-values-requires
 give-values-requires c κs = search needs
 
 -- the head was read first
-head-sizes : (c : tie.After-setup-head) → Fits (c .setup-head .result)
-head-sizes c = head-fits (c .before .before .args .s .now) (c .setup-head .result) (c .setup-head .ensures)
+head-sizes : (c : tie.After-read-head) → Fits (c .read-head .result)
+head-sizes c = head-fits (c .before .before .args .s .now) (c .read-head .result) (c .read-head .ensures)
 
 add-count-ones : tie.Need-add-count-ones
 add-count-ones c = let f = head-sizes (c .before .before .before .before .before .before .before .before) in omega (arith, f .0, f .1)
@@ -38,14 +38,14 @@ sub-free-2 c = let f = head-sizes (c .before .before .before .before .before .be
 
 returns : tie.Need-returns
 returns c = let h = c .before .before .before .before .before .before .before .before .before .before in
-    let m = laid (h .before .before .args .s .now) (h .setup-head .result) (h .setup-head .ensures) _ _ _ _ (c .before .before .before .before .before .point-cells .ensures) (c .before .before .before .give-values .ensures) (c .before .count-ones .ensures) (c .owners .ensures) in
-    (λ i. laidOf (record { machine = m i; answer = h .setup-head .ensures i .answer }), ap (λ (x : Machine). x .cells) m, ap (λ (x : Machine). x .values) m, ap (λ (x : Machine). x .counts) m)
+    let m = laid (h .before .before .args .s .now) (h .read-head .result) (h .read-head .ensures) _ _ _ _ (c .before .before .before .before .before .point-cells .ensures) (c .before .before .before .give-values .ensures) (c .before .count-ones .ensures) (c .owners .ensures) in
+    (λ i. laidOf (record { machine = m i; answer = h .read-head .ensures i .answer }), ap (λ (x : Machine). x .cells) m, ap (λ (x : Machine). x .values) m, ap (λ (x : Machine). x .counts) m)
 
-pub setup-tables-spec : {M : Type 1} → statement M
-setup-tables-spec =
+pub fill-spec : {M : Type 1} → statement M
+fill-spec =
     tie.close
     (tie.spec
-    setup-head-requires
+    read-head-requires
     point-cells-requires
     give-values-requires
     add-count-ones
