@@ -226,7 +226,7 @@ pub fn write_counts(counts: &mut [u8; 128], w: Write)
     }
 }
 
-// How many nodes are free after a write, where that many were before it.
+// How many nodes are free after a write, if so many were before it.
 pub fn write_free(free: u8, w: Write) -> u8
     ensures { λ r. ⌜ r ≡ freeBy w free ⌝ }
 {

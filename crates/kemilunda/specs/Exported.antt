@@ -17,7 +17,7 @@ setupRefusal input = setupNumber (setupOf input .answer)
 abbrev pub setupUsed : List ℕ → ℕ
 setupUsed input = setupBytes (setupOf input .answer)
 
--- the six numbers of a run of what follows the setup; as they were, where the setup is refused
+-- the six numbers of a run of what follows the setup; as they were, if the setup is refused
 abbrev pub numbersBy : SetupAnswer → Machine → List ℕ → ℕ → List ℕ → List ℕ
 numbersBy (Ready used) m input room old = sixOf (ranOf m (drop used input) room .report)
 numbersBy (Refused r) m input room old = old
@@ -25,7 +25,7 @@ numbersBy (Refused r) m input room old = old
 abbrev pub numbersAfter : List ℕ → ℕ → List ℕ → List ℕ
 numbersAfter input room old = numbersBy (setupOf input .answer) (setupOf input .machine) input room old
 
--- how many bytes an import or an export wrote; as it was, where that is refused
+-- how many bytes an import or an export wrote; as it was, if that is refused
 abbrev pub writtenBy : TextAnswer → ℕ → ℕ
 writtenBy (Written n) old = n
 writtenBy (NotWritten r) old = old

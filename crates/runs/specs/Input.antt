@@ -14,7 +14,7 @@ outcomeBy (NotSetUp r) m input room = NotRun r
 abbrev pub outcomeOf : List ℕ → ℕ → Outcome
 outcomeOf input room = outcomeBy (setupOf input .answer) (setupOf input .machine) input room
 
--- the reply buffer after a run of what follows the setup; as it was, where the setup is refused
+-- the reply buffer after a run of what follows the setup; as it was, if the setup is refused
 abbrev pub repliesBy : SetupAnswer → Machine → List ℕ → List ℕ → List ℕ
 repliesBy (Ready used) m input out = bufferOf m (drop used input) out
 repliesBy (NotSetUp r) m input out = out
@@ -22,7 +22,7 @@ repliesBy (NotSetUp r) m input out = out
 abbrev pub repliesAfter : List ℕ → List ℕ → List ℕ
 repliesAfter input out = repliesBy (setupOf input .answer) (setupOf input .machine) input out
 
--- the buffer for the numbers of free nodes after that run; as it was, where the setup is refused
+-- the buffer for the numbers of free nodes after that run; as it was, if the setup is refused
 abbrev pub freeNodesBy : SetupAnswer → Machine → List ℕ → ℕ → List ℕ → List ℕ
 freeNodesBy (Ready used) m input room free = notedOf m (drop used input) room free
 freeNodesBy (NotSetUp r) m input room free = free
