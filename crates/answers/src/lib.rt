@@ -1,9 +1,11 @@
 // What a setup, an entry and a run are answered with: replies and refusals, with the numbers and values that documents 01 and 02 give them.
+#![tactic(auto)]
+
 ghost use Rattle.std.specs.Prelude.{◌≡◌};
 ghost use Rattle.answers.specs.Numbers.{reply_number, reply_value, refusal_number, number_of, value_of};
 
 // What an accepted entry did.
-#[derive(Drop)]
+#[derive(Clone, Copy)]
 pub enum Reply {
     Moved,
     Loaded(u32),
@@ -15,7 +17,7 @@ pub enum Reply {
 }
 
 // Why nothing was done, by the rule that was broken; the numbers are in specs/Numbers.antt.
-#[derive(Drop)]
+#[derive(Clone, Copy)]
 pub enum Refusal {
     Sizes,
     NoTask,
@@ -34,7 +36,7 @@ pub enum Refusal {
     OutputShort,
 }
 
-#[derive(Drop)]
+#[derive(Clone, Copy)]
 pub enum Answer {
     Replied(Reply),
     Refused(Refusal),

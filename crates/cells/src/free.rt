@@ -16,7 +16,7 @@ pub(crate) fn pool_ok(n: u8, p: u8, k: u8, free: u8) -> bool
 }
 
 // The answer to the free-nodes question; the refusal is number 22.
-#[derive(Drop)]
+#[derive(Clone, Copy)]
 pub enum FreeCount {
     Free(u8),
     Refused,

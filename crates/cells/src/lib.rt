@@ -1,4 +1,6 @@
 // The machine record: set up from bytes, one entry at a time, and the questions asked of it.
+#![tactic(auto)]
+
 pub mod free;
 pub mod start;
 
@@ -17,7 +19,7 @@ use tables::{count_at, node_at, put_count, put_node, put_value, value_at};
 use tasks::{HolderCount, NodeNo, Task, TaskNo};
 
 // N, P, K and the number of free nodes; each cell's node; each node's value and count; the task records. What stands past N, P and K makes no difference.
-#[derive(Drop)]
+#[derive(Clone, Copy)]
 pub struct Machine {
     pub n: u8,
     pub p: u8,
@@ -30,7 +32,7 @@ pub struct Machine {
 }
 
 // A machine beside the reply to an entry: the answer, with its number and value, and the task byte.
-#[derive(Drop)]
+#[derive(Clone, Copy)]
 pub struct Applied {
     pub machine: Machine,
     pub answer: Answer,
@@ -38,13 +40,13 @@ pub struct Applied {
 }
 
 // An accepted setup says how many bytes it used; later bytes belong to the schedule.
-#[derive(Drop)]
+#[derive(Clone, Copy)]
 pub enum SetupAnswer {
     Ready(usize),
     Refused(Refusal),
 }
 
-#[derive(Drop)]
+#[derive(Clone, Copy)]
 pub struct SetUp {
     pub machine: Machine,
     pub answer: SetupAnswer,
@@ -96,7 +98,7 @@ pub fn setup_bytes(a: SetupAnswer) -> usize
 }
 
 // What an entry does to its task, and the task byte of its reply.
-#[derive(Drop)]
+#[derive(Clone, Copy)]
 pub struct Decision {
     pub task: u8,
     pub effect: Effect,

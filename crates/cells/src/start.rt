@@ -9,7 +9,7 @@ use answers::Refusal;
 use tasks::{NodeNo, Task, TaskNo};
 
 // A setup's answer and the sizes of its machine, which are 0 if it is refused.
-#[derive(Drop)]
+#[derive(Clone, Copy)]
 pub struct Head {
     pub n: u8,
     pub p: u8,
@@ -18,7 +18,7 @@ pub struct Head {
 }
 
 // A setup's machine but for its three tables, and the answer.
-#[derive(Drop)]
+#[derive(Clone, Copy)]
 pub struct Laid {
     pub n: u8,
     pub p: u8,

@@ -13,6 +13,8 @@
 // - `N .. P .. K .. free ..: question`: the free-nodes question, its number (22 or 0) and its value.
 // - `run of .. bytes`: 21 for a buffer a byte too short, a cut entry included. An empty schedule needs no buffer. 22 comes before 21.
 // - `entry of .. bytes`: an entry is its first ten bytes, and what follows changes nothing. 22 comes before 20.
+#![tactic(auto)]
+
 mod asks;
 mod by_range;
 mod by_step;

@@ -1,17 +1,19 @@
 // Decimal numbers in text: read at a place, and written at one.
+#![tactic(auto)]
+
 ghost use Rattle.std.specs.Prelude.{◌≡◌, true, ◌+◌, ◌*◌, ◌-◌, ◌≤◌, min, length};
 ghost use Rattle.wire.specs.Bytes.{overlaid, fitted};
 ghost use Rattle.digits.specs.Decimal.{is_digit, decimal, digits_at, number_at, number_end};
 
 // A number's value, or 2 ^ 32 for a greater one, and the place behind its last digit.
-#[derive(Drop)]
+#[derive(Clone, Copy)]
 pub enum NumberRead {
     Number(u64, usize),
     NoNumber,
 }
 
 // The same of digits that may be none, or have zeros in front.
-#[derive(Drop)]
+#[derive(Clone, Copy)]
 struct Digits {
     value: u64,
     end: usize,

@@ -1,4 +1,6 @@
 // A schedule entry: read from bytes, refused in document 01's order, or turned into what it does. No machine here, only one task's record.
+#![tactic(auto)]
+
 ghost use Rattle.std.specs.Prelude.{◌≡◌};
 ghost use Rattle.wire.specs.Bytes.{fitted};
 ghost use Rattle.entries.specs.Entry.{entry_of, entry_bytes};
@@ -10,7 +12,7 @@ use answers::{Refusal, Reply};
 use steps::{Deed, Effect, Seen, Write};
 use tasks::{Call, CellNo, Task, TaskNo};
 
-#[derive(Drop)]
+#[derive(Clone, Copy)]
 pub struct Entry {
     pub task: TaskNo,
     pub kind: u8,
@@ -19,7 +21,7 @@ pub struct Entry {
     pub value: u32,
 }
 
-#[derive(Drop)]
+#[derive(Clone, Copy)]
 pub enum EntryRead {
     Whole(Entry),
     Refused(Refusal),
@@ -61,7 +63,7 @@ pub fn put_entry(out: &mut [u8], at: usize, e: Entry)
 }
 
 // What an entry asks of its task, or the first refusal that its own numbers give.
-#[derive(Drop)]
+#[derive(Clone, Copy)]
 pub enum Asked {
     ToGo,
     ToLoad(CellNo),

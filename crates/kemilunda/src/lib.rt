@@ -1,4 +1,6 @@
 // The library for C: numbers and slices only. The header is include/kemilunda.h.
+#![tactic(auto)]
+
 ghost use Rattle.std.specs.Prelude.{◌≡◌, length};
 ghost use Rattle.runs.specs.Run.{six_of};
 ghost use Rattle.runs.specs.Input.{replies_after, free_nodes_after};

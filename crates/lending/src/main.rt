@@ -4,6 +4,8 @@
 // - `list`: the holders question, with its number (0 answered, 24 refused) and its count. The length may be 0 to 16; records past the lent part don't count.
 // - `node`: the same for node numbers: 127 is the last that is answered.
 // - `phase`: one record in that phase whose m is the node asked for: 3 to 9, 11 and 13 to 15 count, and no others.
+#![tactic(auto)]
+
 mod asks;
 mod begins;
 mod lends;

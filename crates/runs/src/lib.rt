@@ -1,4 +1,6 @@
 // A whole schedule from bytes, over a machine's record or after its setup's bytes: one reply an entry, the six numbers, and how many nodes are free after each entry.
+#![tactic(auto)]
+
 ghost use Rattle.std.specs.Prelude.{◌≡◌, ◌+◌, ◌*◌, ◌≤◌, length, set, true};
 ghost use Rattle.answers.specs.Numbers.{refusal_number};
 ghost use Rattle.wire.specs.Bytes.{reply_of, overlaid};
@@ -15,7 +17,7 @@ use cells::{Machine, SetupAnswer};
 use tasks::{CellNo, Task, TaskNo};
 
 // Entries accepted, the refusal or 0, loads begun, load steps, turned-back checks, swaps that took: all for one run.
-#[derive(Drop)]
+#[derive(Clone, Copy)]
 pub struct Report {
     pub accepted: u32,
     pub refusal: u8,
@@ -25,7 +27,7 @@ pub struct Report {
     pub swaps: u32,
 }
 
-#[derive(Drop)]
+#[derive(Clone, Copy)]
 pub struct Ran {
     pub machine: Machine,
     pub report: Report,
@@ -116,7 +118,7 @@ fn reply(out: &mut [u8], i: usize, number: u8, task: u8, value: u32)
 }
 
 // What is left after a run over lent tables: the task records, the number of free nodes, the report.
-#[derive(Drop)]
+#[derive(Clone, Copy)]
 struct Left {
     pub tasks: [Task; 16],
     pub free: u8,
@@ -316,7 +318,7 @@ pub fn run(m: Machine, s: &[u8], out: &mut [u8]) -> Ran
 }
 
 // What comes of a setup and its schedule: the setup's refusal, or the run's report.
-#[derive(Drop)]
+#[derive(Clone, Copy)]
 pub enum Outcome {
     Refused(Refusal),
     Reported(Report),

@@ -1,4 +1,6 @@
 // Schedules as text: `schedule_text import` makes entry bytes of a text, `schedule_text export` a text of entry bytes; standard input to standard output.
+#![tactic(auto)]
+
 ghost use Rattle.std.specs.Prelude.{◌≤◌, length};
 ghost use Rattle.texts.specs.Made.{text_bytes};
 

@@ -1,4 +1,6 @@
 // The step bench: setup and entries from standard input, document 01's text to standard output.
+#![tactic(auto)]
+
 ghost use Rattle.std.specs.Prelude.{◌≤◌, length};
 
 use cells::{Machine, SetupAnswer};

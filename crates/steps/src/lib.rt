@@ -1,4 +1,6 @@
 // The step table: what one atomic step does, as data. It reads some numbers, and changes its own task's record and one place of a table at most.
+#![tactic(auto)]
+
 ghost use Rattle.std.specs.Prelude.{◌≡◌, true, eqb};
 ghost use Rattle.tallies.specs.Lists.{within};
 ghost use Rattle.tallies.specs.Tally.{bit};
@@ -9,7 +11,7 @@ use answers::{Refusal, Reply};
 use tasks::{CellNo, NodeNo, Task};
 
 // All that a step can see but its own task's record: the node of x, the counts of m and of the cursor's node, m's value, P, K, the free nodes' number.
-#[derive(Drop)]
+#[derive(Clone, Copy)]
 pub struct Seen {
     pub here: NodeNo,
     pub held_count: u8,
@@ -21,7 +23,7 @@ pub struct Seen {
 }
 
 // The one place of the tables that a step writes. `Count(v, c, f)`: node v's count becomes c, which leaves f nodes free.
-#[derive(Drop)]
+#[derive(Clone, Copy)]
 pub enum Write {
     Nothing,
     Point(CellNo, NodeNo),
@@ -30,20 +32,20 @@ pub enum Write {
 }
 
 // A count that a step changes: the write that does it and the count then, or a damaged record.
-#[derive(Drop)]
+#[derive(Clone, Copy)]
 pub enum Counted {
     To(Write, u8),
     Broken,
 }
 
-#[derive(Drop)]
+#[derive(Clone, Copy)]
 pub struct Deed {
     pub task: Task,
     pub write: Write,
     pub reply: Reply,
 }
 
-#[derive(Drop)]
+#[derive(Clone, Copy)]
 pub enum Effect {
     Does(Deed),
     Refuses(Refusal),

@@ -1,4 +1,6 @@
 // The tables of a machine, each read and written through the one kind of number that belongs to it; their range tests; their fresh contents.
+#![tactic(auto)]
+
 ghost use Rattle.std.specs.Prelude.{◌≡◌, cond, false, ℕ, min};
 ghost use Rattle.tallies.specs.Lists.{every, fill_to};
 ghost use Rattle.tables.specs.Tables.{node_in, count_in, value_in, task_in, put_in, sizes_ok, cell_ok, count_ok, task_ok_in, value_given};

@@ -1,21 +1,23 @@
 // A task's record, the three kinds of number, and the two places where records are lent: starting a call, and the holders question.
+#![tactic(auto)]
+
 ghost use Rattle.std.specs.Prelude.{◌≡◌, ◌≤◌, take};
 ghost use Rattle.tasks.specs.Records.{with_fields, idle_owning, onward, holding, owning, probing, task_ok};
 ghost use Rattle.tasks.specs.Calls.{begun_of};
 ghost use Rattle.tasks.specs.Holders.{keeps, beyond_of, holders_of, held_among, holders_number, holders_value};
 
 // A cell number, a node number and a task number are different types: one can't be handed over where another is due.
-#[derive(Drop)]
+#[derive(Clone, Copy)]
 pub struct CellNo(pub u8);
 
-#[derive(Drop)]
+#[derive(Clone, Copy)]
 pub struct NodeNo(pub u8);
 
-#[derive(Drop)]
+#[derive(Clone, Copy)]
 pub struct TaskNo(pub u8);
 
 // Document 01's fields: x is `cell`, Y is `value`, m is `held`.
-#[derive(Drop)]
+#[derive(Clone, Copy)]
 pub struct Task {
     pub phase: u8,
     pub cell: CellNo,
@@ -26,7 +28,7 @@ pub struct Task {
 }
 
 // A call that a task starts.
-#[derive(Drop)]
+#[derive(Clone, Copy)]
 pub enum Call {
     Load(CellNo),
     Store(u32),
@@ -35,7 +37,7 @@ pub enum Call {
 }
 
 // The answer to the holders question; the refusal is number 24.
-#[derive(Drop)]
+#[derive(Clone, Copy)]
 pub enum HolderCount {
     Count(usize),
     Refused,

@@ -1,4 +1,6 @@
 // A schedule as the logic analyser's text: made into entry bytes, and made from them.
+#![tactic(auto)]
+
 ghost use Rattle.std.specs.Prelude.{◌≡◌, true, [], ◌∷◌, ◌++◌, ◌+◌, ◌≤◌, eqb, length};
 ghost use Rattle.tallies.specs.Tally.{bit};
 ghost use Rattle.wire.specs.Bytes.{overlaid};
@@ -15,14 +17,14 @@ use entries::{Entry, EntryRead};
 use tasks::{CellNo, TaskNo};
 
 // How many bytes were written, or why none was.
-#[derive(Drop)]
+#[derive(Clone, Copy)]
 pub enum TextAnswer {
     Written(usize),
     NotWritten(Refusal),
 }
 
 // The entry that a line stands for, and the place behind the line; or why it is bad, 30 or 31.
-#[derive(Drop)]
+#[derive(Clone, Copy)]
 enum LineRead {
     ALine(Entry, usize),
     BadLine(Refusal),

@@ -1,4 +1,6 @@
 // One entry over lent tables: decided, and written back where it lies. All that is held meanwhile is one task's record and the place that changes.
+#![tactic(auto)]
+
 ghost use Rattle.std.specs.Prelude.{◌≡◌, ◌≢◌, ◌≤◌};
 ghost use Rattle.steps.specs.Table.{effect_of};
 ghost use Rattle.entries.specs.Order.{order_of};
@@ -13,7 +15,7 @@ use steps::Effect;
 use tasks::{Call, CellNo, Task, TaskNo};
 
 // A task's record after an entry, how many nodes are free then, and the entry's answer.
-#[derive(Drop)]
+#[derive(Clone, Copy)]
 pub struct Turned {
     pub task: Task,
     pub free: u8,

@@ -1,4 +1,6 @@
 // Bytes: marks, little-endian numbers, and the reply record.
+#![tactic(auto)]
+
 ghost use Rattle.std.specs.Prelude.{◌≡◌, ◌+◌, leb, get_or};
 ghost use Rattle.wire.specs.Bytes.{word, word_at, marked, little_endian, reply_of, fitted};
 
