@@ -1,6 +1,5 @@
 -- `put_field`: the digits, and a byte behind them.
 use Rattle.std.proofs.Common.{◌+◌, ◌≡◌, length, ◌∙◌, arith}
-use Rattle.wire.specs.Bytes.{overlaid}
 use Rattle.wire.proofs.Laws.{has_room, over-length, over-set}
 use Rattle.digits.specs.Decimal.{decimal}
 use Rattle.digits.proofs.Writing.{end_fits}

@@ -1,5 +1,5 @@
 -- `put_line`: four fields behind each other.
-use Rattle.std.proofs.Common.{ℕ, ◌+◌, ◌≡◌, List, [], ◌∷◌, ◌++◌, length, ap, ◌∙◌, arith}
+use Rattle.std.proofs.Common.{ℕ, List, [], ◌∷◌, ◌++◌, ap, ◌∙◌, arith}
 use Rattle.wire.specs.Bytes.{overlaid}
 use Rattle.digits.specs.Decimal.{decimal}
 use Rattle.texts.specs.Line.{comma, newline}
