@@ -30,6 +30,7 @@ fn print(file: &impl Print, text: &[u8], end: usize) -> io::Result<()>
 }
 
 // A refusal goes to standard error, as `import 30`; standard output stays empty.
+#[tactic(auto, using(wire::proofs::Laws::lengths, digits::proofs::Writing::end_within))]
 fn refused(err: &impl Print, direction: &str, number: u8) -> io::Result<()> {
     let mut text = [0u8; 3];
     let end = digits::put_number(&mut text, 0, number as u32);
