@@ -23,6 +23,7 @@ pub enum FreeCount {
 }
 
 // The free-nodes question, handed four numbers of a record and none of its tables: it may be asked after every entry.
+#[tactic(auto, unfolding(crate::specs::Free::free_of))]
 pub fn free_nodes(n: u8, p: u8, k: u8, free: u8) -> FreeCount
     ensures { result ≡ free_of n p k free }
 {

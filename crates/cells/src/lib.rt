@@ -145,6 +145,7 @@ pub fn tables_ok<'a>(n: u8, p: u8, k: u8, free: u8, cells: &'a [u8], counts: &'a
 }
 
 // One schedule entry over lent tables; nothing is written. t is the record of its task, and `inside` says whether the task records are in range.
+#[tactic(auto, unfolding(crate::specs::Apply::judged_of, crate::specs::Apply::decided_of))]
 fn decided<'a>(
     n: u8,
     p: u8,

@@ -64,6 +64,7 @@ fn refused_head(r: Refusal) -> Head
 }
 
 // The refusals of a setup record's bytes, or its sizes and the bytes used. No table is filled: so a caller who asks for no machine pays for none.
+#[tactic(auto, unfolding(crate::specs::Setup::setup_of, crate::specs::Setup::fresh_of))]
 pub fn read_head(s: &[u8]) -> Head
     ensures { result ≡ head_of (setup_of s.now) }
 {

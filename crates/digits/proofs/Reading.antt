@@ -8,7 +8,7 @@ use mathlib.Core.Bool.{true, false, cond, and-false, or-true}
 use mathlib.Core.List.{List, [], ◌∷◌}
 use lib.ListN.{length, get_or, drop, drop_of_length-le}
 use lib.Seq.{drop-cons, get_or-drop}
-use borrow.Author.Tests.{le-leb, ne_eqb}
+use borrow.Author.Tests.{le-leb, lt-leb, ne_eqb}
 use Rattle.tallies.proofs.Lists.{either}
 use Rattle.digits.specs.Types.{Number, NoNumber}
 use Rattle.digits.specs.Decimal.{is_digit, all_digits, is_number, onward, value_of, lead, capped, digits_at, number_at}
@@ -73,6 +73,14 @@ reading_ends s at v end r none =
     let value : v ≡ capped (value_of (lead (drop at s))) = sym (capped_small v r.small) ∙ (rw none at r.whole) in
     let place : end ≡ at + length (lead (drop at s)) = let p = rw none at r.place in omega (arith, p) in
     rw (← value, ← place)
+
+-- a byte below or above the digits ends them
+pub stops_below : (s : List ℕ) (at v end : ℕ) → Reading s at v end → end < length s → get_or s end 0 < 0x30 → record { value = v; end = end } ≡ digits_at s at
+stops_below s at v end r l h = reading_ends s at v end r (lead_stops s end l (rw (lt-leb 0x30 (get_or s end 0) h)))
+
+pub stops_above : (s : List ℕ) (at v end : ℕ) → Reading s at v end → end < length s → 0x39 < get_or s end 0 → record { value = v; end = end } ≡ digits_at s at
+stops_above s at v end r l h =
+    reading_ends s at v end r (lead_stops s end l (rw (le-leb 0x30 (get_or s end 0) (omega arith), lt-leb (get_or s end 0) 0x39 h)))
 
 -- the digits that a text starts with are digits, and its first bytes
 pub lead_digits : (s : List ℕ) → all_digits (lead s) ≡ true

@@ -29,6 +29,7 @@ fn with_digit(v: u64, b: u8) -> u64
 }
 
 // The digits from place `at` on.
+#[tactic(auto, using(crate::proofs::Reading::stops_below, crate::proofs::Reading::stops_above, crate::proofs::Reading::reading_starts))]
 fn digits_at(s: &[u8], at: usize) -> Digits
     requires { at ≤ length s.now }
     ensures { result ≡ digits_at s.now at }

@@ -28,6 +28,7 @@ pub enum EntryRead {
 }
 
 // The first ten bytes; what follows them is not looked at. Refusals 20 and 19.
+#[tactic(auto, unfolding(crate::specs::Entry::entry_of))]
 pub fn read_entry(s: &[u8]) -> EntryRead
     ensures { result ≡ entry_of s.now }
 {
@@ -48,6 +49,7 @@ pub fn read_entry(s: &[u8]) -> EntryRead
 }
 
 // An entry's ten bytes from place `at` on; nothing where there is no room for them.
+#[tactic(auto, using(wire::proofs::Laws::no_room, wire::proofs::Laws::lengths))]
 pub fn put_entry(out: &mut [u8], at: usize, e: Entry)
     ensures { out.new ≡ fitted out.old at (entry_bytes e) }
 {
@@ -74,6 +76,7 @@ pub enum Asked {
 }
 
 // The kinds that name no cell.
+#[tactic(auto, unfolding(crate::specs::Asking::plain_of))]
 fn plain(kind: u8) -> Asked
     ensures { result ≡ plain_of kind }
 {
@@ -85,6 +88,7 @@ fn plain(kind: u8) -> Asked
 }
 
 // Refusals 12, 13, 15 and 14, for n cells and p tasks. The entry comes in its parts, and each kind has its own tests: so a run is quicker.
+#[tactic(auto, unfolding(crate::specs::Asking::asked_of, crate::specs::Asking::plain_of, crate::specs::Entry::nonzero, crate::specs::Entry::outside))]
 pub fn asks(n: u8, p: u8, q: TaskNo, kind: u8, x: CellNo, spare: u8, y: u32) -> Asked
     ensures { result ≡ asked_of n p (entry_by q kind x spare y) }
 {
@@ -138,6 +142,7 @@ fn begin_call(t: Task, c: Call) -> Effect
 }
 
 // Only an idle task may begin to load.
+#[tactic(auto, unfolding(crate::specs::Order::load_of))]
 pub fn load(t: Task, x: CellNo) -> Effect
     ensures { result ≡ load_of t x }
 {
@@ -167,6 +172,7 @@ fn linked_to(t: Task, x: CellNo) -> bool
 }
 
 // Without a link on its cell a store is figure 1's false, at once: the task's record is handed back as it is.
+#[tactic(auto, unfolding(crate::specs::Order::store_of))]
 pub fn store(t: Task, x: CellNo, y: u32) -> Effect
     ensures { result ≡ store_of t x y }
 {
@@ -184,6 +190,7 @@ pub fn store(t: Task, x: CellNo, y: u32) -> Effect
 }
 
 // A release or a validate: a call on the cell that the task is linked to.
+#[tactic(auto, unfolding(crate::specs::Order::linked_call_of))]
 pub fn linked_call(t: Task, c: Call) -> Effect
     ensures { result ≡ linked_call_of t c }
 {
@@ -194,6 +201,7 @@ pub fn linked_call(t: Task, c: Call) -> Effect
 }
 
 // What an entry does to its task t in a machine of n cells and p tasks, or its first refusal after 20 and 19.
+#[tactic(auto)]
 pub fn order(n: u8, p: u8, e: Entry, t: Task, s: Seen) -> Effect
     ensures { result ≡ order_of n p e t s }
 {

@@ -21,11 +21,11 @@ recounted_of s v c d =
     (To (Count v d (free_after s.free c d)) d))
 
 -- the count c of node v up by 1, and the number then there; a record of P tasks is damaged where it would go past P + 1 (or past a byte, where
--- P is 255), and where `recountedOf` says so
+-- P is 255), and where `recounted_of` says so
 unfoldable pub raised_of : Seen → NodeNo → ℕ → Counted
 raised_of s v c = cond (ltb s.tasks c) Broken (cond (eqb c 255) Broken (recounted_of s v c (c + 1)))
 
--- the count c of node v down by 1, and the number left behind; the record is damaged where c is 0, and where `recountedOf` says so
+-- the count c of node v down by 1, and the number left behind; the record is damaged where c is 0, and where `recounted_of` says so
 unfoldable pub lowered_of : Seen → NodeNo → ℕ → Counted
 lowered_of s v c = cond (eqb c 0) Broken (recounted_of s v c (c - 1))
 

@@ -52,6 +52,7 @@ pub enum Effect {
 }
 
 // The node after v, in a pool of k.
+#[tactic(auto, unfolding(crate::specs::Table::after))]
 pub fn next_node(k: u8, v: NodeNo) -> NodeNo
     ensures { result ≡ after k v }
 {
@@ -71,6 +72,7 @@ fn free_one(count: u8) -> u16
 }
 
 // Every write of a count is made here, and with it the number of free nodes: node v's count goes from one number to another.
+#[tactic(auto, unfolding(crate::specs::Table::recounted_of))]
 fn recounted(s: Seen, v: NodeNo, from: u8, to: u8) -> Counted
     ensures { result ≡ recounted_of s v from to }
 {
@@ -87,6 +89,7 @@ fn recounted(s: Seen, v: NodeNo, from: u8, to: u8) -> Counted
 }
 
 // The one place where a count goes up: node v's, which is now `count`.
+#[tactic(auto, unfolding(crate::specs::Table::raised_of))]
 pub fn raised(s: Seen, v: NodeNo, count: u8) -> Counted
     ensures { result ≡ raised_of s v count }
 {
@@ -101,6 +104,7 @@ pub fn raised(s: Seen, v: NodeNo, count: u8) -> Counted
 }
 
 // The one place where a count goes down; S3 decides on the number left behind.
+#[tactic(auto, unfolding(crate::specs::Table::lowered_of))]
 pub fn lowered(s: Seen, v: NodeNo, count: u8) -> Counted
     ensures { result ≡ lowered_of s v count }
 {
@@ -265,6 +269,7 @@ pub fn v1_step(t: Task, s: Seen) -> Effect
 }
 
 // Phases 1 to 5.
+#[tactic(auto, using(crate::proofs::Rows::effect_at), unfolding(crate::specs::Table::rows))]
 fn load_step(t: Task, s: Seen) -> Effect
     requires { within 1 5 t.phase ≡ true }
     ensures { result ≡ effect_of t s }
@@ -280,6 +285,7 @@ fn load_step(t: Task, s: Seen) -> Effect
 }
 
 // Phases 7 to 9 and 11 to 13: there is no phase 10.
+#[tactic(auto, using(crate::proofs::Rows::effect_at), unfolding(crate::specs::Table::rows))]
 fn store_step(t: Task, s: Seen) -> Effect
     requires { storing t.phase ≡ true }
     ensures { result ≡ effect_of t s }
@@ -296,6 +302,7 @@ fn store_step(t: Task, s: Seen) -> Effect
 }
 
 // What the step of a task does, decided by its phase. A run goes by `turns::go`, which asks the same rows and writes back on the spot.
+#[tactic(auto, using(crate::proofs::Rows::effect_at, crate::proofs::Rows::effect_no_phase), unfolding(crate::specs::Table::rows))]
 pub fn step(t: Task, s: Seen) -> Effect
     ensures { result ≡ effect_of t s }
 {

@@ -2,9 +2,9 @@
 use mathlib.Core.Path.{refl, sym, ◌∙◌}
 use Rattle.contracts.specs.One.{One}
 use Rattle.tables.proofs.node_at.Kinds as node-at·k
-use Rattle.tables.proofs.node_at.Reads as Node-at
+use Rattle.tables.proofs.node_at.Reads as node-at
 use Rattle.tables.proofs.count_at.Kinds as count-at·k
-use Rattle.tables.proofs.count_at.Reads as count_at
+use Rattle.tables.proofs.count_at.Reads as count-at
 use Rattle.tables.proofs.value_at.Kinds as value-at·k
 use Rattle.tables.proofs.value_at.Reads as value-at
 use Rattle.tables.proofs.task_at.Kinds as task-at·k
@@ -12,7 +12,7 @@ use Rattle.tables.proofs.task_at.Reads as task-at
 use Rattle.tables.proofs.put_node.Kinds as put-node·k
 use Rattle.tables.proofs.put_node.Reads as put-node
 use Rattle.tables.proofs.put_count.Kinds as put-count·k
-use Rattle.tables.proofs.put_count.Reads as put_count
+use Rattle.tables.proofs.put_count.Reads as put-count
 use Rattle.tables.proofs.put_value.Kinds as put-value·k
 use Rattle.tables.proofs.put_value.Reads as put-value
 use Rattle.tables.proofs.slot.Kinds as slot·k
@@ -30,12 +30,12 @@ use Rattle.tables.proofs.point_cells.Reads as point-cells
 use Rattle.tables.proofs.give_values.Kinds as give-values·k
 use Rattle.tables.proofs.give_values.Reads as give-values
 use Rattle.tables.proofs.count_ones.Kinds as count-ones·k
-use Rattle.tables.proofs.count_ones.Reads as count_ones
+use Rattle.tables.proofs.count_ones.Reads as count-ones
 
-pub node_at_one : One node-at·k.ps node-at·k.r Node-at.Pre Node-at.Post
+pub node_at_one : One node-at·k.ps node-at·k.r node-at.Pre node-at.Post
 node_at_one κs a z z' ws ws' p q q' = (q ∙ sym q', refl)
 
-pub count_at_one : One count-at·k.ps count-at·k.r count_at.Pre count_at.Post
+pub count_at_one : One count-at·k.ps count-at·k.r count-at.Pre count-at.Post
 count_at_one κs a z z' ws ws' p q q' = (q ∙ sym q', refl)
 
 pub value_at_one : One value-at·k.ps value-at·k.r value-at.Pre value-at.Post
@@ -47,7 +47,7 @@ task_at_one κs a z z' ws ws' p q q' = (q ∙ sym q', refl)
 pub put_node_one : One put-node·k.ps put-node·k.r put-node.Pre put-node.Post
 put_node_one κs a z z' ws ws' p q q' = (refl, λ i. ((q ∙ sym q') i, ws.1))
 
-pub put_count_one : One put-count·k.ps put-count·k.r put_count.Pre put_count.Post
+pub put_count_one : One put-count·k.ps put-count·k.r put-count.Pre put-count.Post
 put_count_one κs a z z' ws ws' p q q' = (refl, λ i. ((q ∙ sym q') i, ws.1))
 
 pub put_value_one : One put-value·k.ps put-value·k.r put-value.Pre put-value.Post
@@ -74,5 +74,5 @@ point_cells_one κs a z z' ws ws' p q q' = (refl, λ i. ((q ∙ sym q') i, ws.1)
 pub give_values_one : One give-values·k.ps give-values·k.r give-values.Pre give-values.Post
 give_values_one κs a z z' ws ws' p q q' = (refl, λ i. ((q ∙ sym q') i, ws.1))
 
-pub count_ones_one : One count-ones·k.ps count-ones·k.r count_ones.Pre count_ones.Post
+pub count_ones_one : One count-ones·k.ps count-ones·k.r count-ones.Pre count-ones.Post
 count_ones_one κs a z z' ws ws' p q q' = (refl, λ i. ((q ∙ sym q') i, ws.1))

@@ -44,6 +44,7 @@ pub fn task_at(tasks: [Task; 16], p: TaskNo) -> Task
     }
 }
 
+#[tactic(auto, unfolding(crate::specs::Tables::put_in))]
 pub fn put_node(cells: &mut [u8; 64], x: CellNo, v: NodeNo)
     ensures { cells.new ≡ put_in 64 cells.old x.0 v.0 }
 {
@@ -54,6 +55,7 @@ pub fn put_node(cells: &mut [u8; 64], x: CellNo, v: NodeNo)
     }
 }
 
+#[tactic(auto, unfolding(crate::specs::Tables::put_in))]
 pub fn put_count(counts: &mut [u8; 128], v: NodeNo, c: u8)
     ensures { counts.new ≡ put_in 128 counts.old v.0 c }
 {
@@ -63,6 +65,7 @@ pub fn put_count(counts: &mut [u8; 128], v: NodeNo, c: u8)
     }
 }
 
+#[tactic(auto, unfolding(crate::specs::Tables::put_in))]
 pub fn put_value(values: &mut [u32; 128], v: NodeNo, y: u32)
     ensures { values.new ≡ put_in 128 values.old v.0 y }
 {
@@ -88,6 +91,7 @@ fn both(a: bool, b: bool) -> bool
     if a { b } else { false }
 }
 
+#[tactic(auto, unfolding(crate::specs::Tables::sizes_ok))]
 pub fn sizes_ok(n: u8, p: u8, k: u8) -> bool
     ensures { result ≡ sizes_ok n p k }
 {

@@ -30,7 +30,7 @@ use Rattle.tasks.proofs.Task.probing.Reads as probing
 use Rattle.tasks.proofs.Task.copied.Kinds as copied·k
 use Rattle.tasks.proofs.Task.copied.Reads as copied
 use Rattle.tasks.proofs.Task.in_range.Kinds as in-range·k
-use Rattle.tasks.proofs.Task.in_range.Reads as in_range_lem
+use Rattle.tasks.proofs.Task.in_range.Reads as in-range
 use Rattle.tasks.proofs.begun.Kinds as begun·k
 use Rattle.tasks.proofs.begun.Reads as begun
 use Rattle.tasks.proofs.lent_begin.Kinds as lent-begin·k
@@ -64,7 +64,7 @@ probing_one κs a z z' ws ws' p q q' = (q ∙ sym q', refl)
 pub copied_one : One copied·k.ps copied·k.r copied.Pre copied.Post
 copied_one κs a z z' ws ws' p q q' = (q ∙ sym q', refl)
 
-pub in_range_one : One in-range·k.ps in-range·k.r in_range_lem.Pre in_range_lem.Post
+pub in_range_one : One in-range·k.ps in-range·k.r in-range.Pre in-range.Post
 in_range_one κs a z z' ws ws' p q q' = (q ∙ sym q', refl)
 
 pub begun_one : One begun·k.ps begun·k.r begun.Pre begun.Post
@@ -88,7 +88,7 @@ holders_number_one κs a z z' ws ws' p q q' = (q ∙ sym q', refl)
 pub holders_value_one : One holders-value·k.ps holders-value·k.r holders-value.Pre holders-value.Post
 holders_value_one κs a z z' ws ws' p q q' = (q ∙ sym q', refl)
 
--- `begin` and `holders` have no generated reading. NAME-says ties a fact to the clause in the source, and NAME-one is about that fact.
+-- `begin` and `holders`, by the clause as the source has it: NAME_says ties a fact to that clause, and NAME_one is about the fact.
 -- what the lent record is when `begin` returns
 abbrev pub Began : Task → Call → Task → Type 0
 Began t c u = u ≡ begun_of t c

@@ -118,6 +118,7 @@ impl Task {
     }
 
     // The part of refusal 22's ranges that concerns one record, for n cells and k nodes.
+    #[tactic(auto, unfolding(crate::specs::Records::task_ok))]
     pub fn in_range(self, n: u8, k: u8) -> bool
         ensures { result ≡ task_ok n k self }
     {
@@ -232,6 +233,7 @@ fn lent_holders(ts: [Task; 16], p: usize, node: NodeNo) -> HolderCount
 }
 
 // The holders question of the first p records of a table; a table of more than 16 is refused as such a list is.
+#[tactic(auto, unfolding(crate::specs::Holders::held_among))]
 pub fn held_among(ts: [Task; 16], p: u8, node: NodeNo) -> HolderCount
     ensures { result ≡ held_among ts p node }
 {

@@ -2,7 +2,7 @@
 use Prim.Native.Nat.{ℕ, suc, ◌+◌, ◌-◌, ◌≤◌, ◌<◌}
 use native.Mathlib.Omega.{arith}
 use native.Mathlib.Decide.{dec_lt}
-use mathlib.Core.Path.{◌≡◌, refl, sym, ap, ◌∙◌}
+use mathlib.Core.Path.{◌≡◌, refl, sym, ap, subst, ◌∙◌}
 use mathlib.Core.Logic.{inl, inr}
 use mathlib.Core.Bool.{Bool, true, false, cond, ◌&&◌}
 use mathlib.Core.List.{List, [], ◌∷◌, ◌++◌, append_assoc}
@@ -10,6 +10,7 @@ use lib.ListN.{length, take, drop, length-append, length-drop, take-append-drop}
 use lib.Seq.{drop-drop, drop-append-add, length-take-le}
 use lib.Dec.{eqb}
 use borrow.Author.Tests.{lt-ltb}
+use Rattle.tallies.proofs.Lists.{part}
 use Rattle.wire.specs.Bytes.{overlaid}
 use Rattle.wire.proofs.Laws.{over-length, over_four}
 use Rattle.digits.specs.Decimal.{decimal}
@@ -73,6 +74,10 @@ line_says s at h = closing (is_closed t) refl
           | inr p ↦ absurd (not_closed t q p)
         ]
 
+-- the same of an answer that is known
+pub line_tells : (s : List ℕ) (at : ℕ) (r : LineRead) → at < length s → line_at s at ≡ r → Says s at r
+line_tells s at r h e = subst (Says s at) e (line_says s at h)
+
 -- what an answer about an entry at `at` says of the bytes from there on
 abbrev pub Tells : List ℕ → ℕ → EntryRead → Type 0
 Tells s at (Refused r) = text_made (drop at s) ≡ bad r
@@ -104,6 +109,10 @@ entry_tells s at h =
     whole : 10 ≤ length t → (r : EntryRead) → entry_of t ≡ r → Tells s at (plain_of r)
     whole l (Refused r) q = made l ∙ rw q
     whole l (Whole e) q = spare l e q (eqb e.spare 0) refl
+
+-- the same of an answer that is known, about the bytes that are lent from there on
+pub part_tells : (s : List ℕ) (at : ℕ) (r : EntryRead) → at < length s → plain_of (entry_of (take (length s - at) (drop at s))) ≡ r → Tells s at r
+part_tells s at r h e = subst (Tells s at) (ap (λ (u : List ℕ). plain_of (entry_of u)) (sym (part s at)) ∙ e) (entry_tells s at h)
 
 -- how long the line of an entry is
 pub line-length : (e : Entry) → length (line_of e) ≡ length (decimal e.task.0) + length (decimal e.kind) + length (decimal e.cell.0) + length (decimal e.value) + 4

@@ -89,6 +89,7 @@ fn field_at(s: &[u8], at: usize, close: u8) -> NumberRead
 }
 
 // The sizes of a line's numbers (31).
+#[tactic(auto, unfolding(crate::specs::Steps::sized))]
 fn sized(task: u64, kind: u64, cell: u64, value: u64, next: usize) -> LineRead
     ensures { result ≡ sized task kind cell value next }
 {

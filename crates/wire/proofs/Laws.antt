@@ -74,6 +74,9 @@ fitted-length o at b =
       | no h ↦ rw (no_room o at b (omega arith))
     ]
 
+-- for the attribute of a function, which takes no name with a dash
+pub ruleset lengths = fitted-length
+
 -- a list of two
 pub pair : (l : List ℕ) → length l ≡ 2 → l ≡ get_or l 0 0 ∷ get_or l 1 0 ∷ []
 pair [] h = absurd (eqb-false 0 2 refl h)

@@ -26,6 +26,7 @@ pub fn little_endian(a: u8, b: u8, c: u8, d: u8) -> u32
 }
 
 // The number in the four bytes from `at` on.
+#[tactic(auto, unfolding(crate::specs::Bytes::word_at))]
 pub fn word_at(s: &[u8], at: u32) -> u32
     ensures { result ≡ word_at s.now at }
 {
@@ -39,6 +40,7 @@ pub fn word_at(s: &[u8], at: u32) -> u32
 }
 
 // Whether the bytes start with the mark.
+#[tactic(auto, unfolding(crate::specs::Bytes::marked))]
 pub fn starts_with(s: &[u8], mark: [u8; 2]) -> bool
     ensures { result ≡ marked mark s.now }
 {
@@ -58,6 +60,7 @@ pub fn has_room(len: usize, at: usize, n: usize) -> bool
 }
 
 // A mark from place `at` on; nothing where there is no room for it. The same of what follows.
+#[tactic(auto, using(crate::proofs::Laws::no_room, crate::proofs::Laws::has_room, crate::proofs::Laws::two), unfolding(crate::specs::Bytes::fitted))]
 pub fn put_mark(out: &mut [u8], at: usize, mark: [u8; 2])
     ensures { out.new ≡ fitted out.old at mark }
 {
@@ -69,6 +72,7 @@ pub fn put_mark(out: &mut [u8], at: usize, mark: [u8; 2])
 }
 
 // A number in four bytes, the lowest first.
+#[tactic(auto, using(crate::proofs::Laws::no_room))]
 pub fn put_word(out: &mut [u8], at: usize, value: u32)
     ensures { out.new ≡ fitted out.old at (little_endian value) }
 {
@@ -82,6 +86,7 @@ pub fn put_word(out: &mut [u8], at: usize, value: u32)
 }
 
 // A reply record.
+#[tactic(auto, using(crate::proofs::Laws::no_room, crate::proofs::Laws::lengths))]
 pub fn put_reply(out: &mut [u8], at: usize, number: u8, task: u8, value: u32)
     ensures { out.new ≡ fitted out.old at (reply_of number task value) }
 {
