@@ -1,1 +1,2 @@
 // No code here: schedules worked out by hand, as rows of one table.
+#![tactic(auto)]

@@ -22,7 +22,6 @@ use Rattle.runs.specs.declared.Report.{Report}
 use Rattle.runs.specs.declared.Ran.{Ran}
 use Rattle.runs.specs.declared.Outcome.{Outcome}
 use Rattle.runs.specs.declared.Outcome.TheVariants.{Refused as NotRun, Reported}
-use Rattle.runs.specs.Counts.{accepted}
 use Rattle.runs.specs.Run.{ran_from, ran_of}
 use Rattle.runs.specs.Input.{outcome_by, replies_by, free_nodes_by}
 use Rattle.runs.proofs.run_free.Reads as run-free
@@ -31,7 +30,7 @@ use Rattle.laws.specs.Bytes.{load}
 use Rattle.laws.specs.Small.{small}
 use Rattle.laws.proofs.Start.{setup_kept}
 use Rattle.laws.proofs.Ranges.{in_range_lem}
-use Rattle.excluded.specs.Lent.{lent, never}
+use Rattle.excluded.specs.Lent.{lent, lent_mut, never}
 use Rattle.excluded.specs.Records.{running}
 use Rattle.excluded.specs.Looks.{report_told}
 
@@ -53,7 +52,7 @@ small_load = small ++ load 0 0
 module _ (κs : Lfts 3) (z : Outcome) (out notes : List ℕ) where
   -- a run of the bytes `input`, with these buffers at entry
   abbrev Inputs : List ℕ → List ℕ → List ℕ → Type 0
-  Inputs input was free = run-input.Post κs (lent input, (lent was, (lent free, tt))) z (lent input, (lent out, (lent notes, tt)))
+  Inputs input was free = run-input.Post κs (lent input, (lent_mut was, (lent_mut free, tt))) z (lent input, (lent_mut out, (lent_mut notes, tt)))
 
   module _ (input was free : List ℕ) where
     refuses : (r : Refusal) → Inputs input was free → z ≡ NotRun r → (setup_of input).answer ≡ NotSetUp r
@@ -96,8 +95,8 @@ module _ (κs : Lfts 3) (z : Outcome) (out notes : List ℕ) where
 
       abbrev RunsOn : Type 0
       RunsOn =
-          run-free.Post κr (y.machine, (lent (drop u input), (lent was, (lent free, tt)))) w
-          (y.machine, (lent (drop u input), (lent replies, (lent numbers, tt))))
+          run-free.Post κr (y.machine, (lent (drop u input), (lent_mut was, (lent_mut free, tt)))) w
+          (y.machine, (lent (drop u input), (lent_mut replies, (lent_mut numbers, tt))))
 
       ready : SetsUp → (setup_of input).answer ≡ Ready u
       ready e = sym (ap (λ x. x.answer) e.0) ∙ e.1

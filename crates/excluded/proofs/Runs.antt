@@ -16,7 +16,7 @@ use Rattle.runs.proofs.run.Reads as run
 use Rattle.runs.proofs.run_free.Reads as run-free
 use Rattle.laws.specs.Bytes.{entry, go, load, store}
 use Rattle.laws.specs.Small.{fresh, gos, case10, case11}
-use Rattle.excluded.specs.Lent.{lent}
+use Rattle.excluded.specs.Lent.{lent, lent_mut}
 use Rattle.excluded.specs.Records.{bytes, running, task_at, pointer_at_k, count_past_most, free_past_k, pool_too_small, phase_ten, cursor_at_k, phase_ten_past_p, seeking, nothing_to_lower}
 
 -- a whole load by task 0, and a whole store after it
@@ -30,7 +30,7 @@ storing = loading ++ store 0 0 9 ∷ gos 3 0
 module _ (κs : Lfts 3) (z : Ran) (out notes : List ℕ) where
   -- a run of the bytes s on the record m, with these buffers
   abbrev Allows : Machine → List ℕ → List ℕ → List ℕ → Type 0
-  Allows m s was free = run-free.Post κs (m, (lent s, (lent was, (lent free, tt)))) z (m, (lent s, (lent out, (lent notes, tt))))
+  Allows m s was free = run-free.Post κs (m, (lent s, (lent_mut was, (lent_mut free, tt)))) z (m, (lent s, (lent_mut out, (lent_mut notes, tt))))
 
   -- the same, with so many zeros for its replies and one 9 for a number of free nodes
   abbrev Runs : Machine → List ℕ → ℕ → Type 0
@@ -272,7 +272,7 @@ module _ (κs : Lfts 3) (z : Ran) (out notes : List ℕ) where
 module _ (κs : Lfts 2) (z : Ran) (out : List ℕ) where
   -- a plain run of the bytes s on the record m, with so many zeros for its replies
   abbrev Plainly : Machine → List ℕ → ℕ → Type 0
-  Plainly m s room = run.Post κs (m, (lent s, (lent (replicate room 0), tt))) z (m, (lent s, (lent out, tt)))
+  Plainly m s room = run.Post κs (m, (lent s, (lent_mut (replicate room 0), tt))) z (m, (lent s, (lent_mut out, tt)))
 
   -- a plain run that doesn't test the task records
   pub plain_run_untested : Plainly phase_ten (load 0 0) 8 → z.report.refusal ≡ 0 → ⊥

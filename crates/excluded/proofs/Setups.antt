@@ -1,5 +1,5 @@
 -- Wrong answers of a setup, of its head alone, over lent tables and as a record, that the contracts rule out. Assumes nothing.
-use Prim.Native.Nat.{ℕ, ◌+◌, ◌-◌, ◌*◌, ◌≤◌, ◌<◌}
+use Prim.Native.Nat.{ℕ, ◌+◌, ◌*◌, ◌≤◌, ◌<◌}
 use native.Mathlib.Omega.{arith}
 use mathlib.Core.Path.{◌≡◌, refl, sym, ap, ◌∙◌}
 use mathlib.Core.Bool.{true}
@@ -32,7 +32,7 @@ use Rattle.laws.specs.Bytes.{words, setup}
 use Rattle.laws.specs.Small.{small}
 use Rattle.laws.proofs.Start.{Sizes as InBounds, setup_blank}
 use Rattle.faults.specs.Benches.{computing}
-use Rattle.excluded.specs.Lent.{lent, never}
+use Rattle.excluded.specs.Lent.{lent, lent_mut, never}
 
 -- WHAT A SETUP'S ANSWER TELLS OF ITS BYTES
 
@@ -214,7 +214,7 @@ module _ (s : List ℕ) where
 module _ (κs : Lfts 4) (z : Laid) (cs vs ns cells values counts : List ℕ) where
   -- the setup of the bytes s
   abbrev Lays : List ℕ → Type 0
-  Lays s = fill.Post κs (lent s, (lent cs, (lent vs, (lent ns, tt)))) z (lent s, (lent cells, (lent values, (lent counts, tt))))
+  Lays s = fill.Post κs (lent s, (lent_mut cs, (lent_mut vs, (lent_mut ns, tt)))) z (lent s, (lent_mut cells, (lent_mut values, (lent_mut counts, tt))))
 
   blank : (s : List ℕ) (r : Refusal) → Lays s → z.answer ≡ NotSetUp r → (setup_of s).machine ≡ blank_of
   blank s r q a = setup_blank s r (sym (ap (λ x. x.answer) q.0) ∙ a)

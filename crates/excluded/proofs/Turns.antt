@@ -21,14 +21,14 @@ use Rattle.turns.proofs.carry.Reads as carry
 use Rattle.turns.proofs.go.Reads as go
 use Rattle.turns.proofs.turn.Reads as turn
 use Rattle.faults.specs.Benches.{computing}
-use Rattle.excluded.specs.Lent.{lent}
+use Rattle.excluded.specs.Lent.{lent_mut}
 use Rattle.excluded.specs.Records.{at, cells, values, counts}
 
 -- z is handed back, and the tables at exit are cs, vs and ns
 module _ (κs : Lfts 3) (z : Turned) (cs vs ns : List ℕ) where
   -- an effect on a task in phase 12, if 2 nodes are free
   abbrev Carries : Effect → Type 0
-  Carries e = carry.Post κs (lent cells, (lent values, (lent counts, (2, (at 12, (e, tt)))))) z (lent cs, (lent vs, (lent ns, (2, (at 12, (e, tt))))))
+  Carries e = carry.Post κs (lent_mut cells, (lent_mut values, (lent_mut counts, (2, (at 12, (e, tt)))))) z (lent_mut cs, (lent_mut vs, (lent_mut ns, (2, (at 12, (e, tt))))))
 
   -- a refusal that writes a pointer
   pub refusal_writes_cells : (r : Refusal) (i : ℕ) → Carries (Refuses r) → get_or cs i 0 ≢ get_or cells i 0 → ⊥
@@ -67,7 +67,7 @@ module _ (κs : Lfts 3) (z : Turned) (cs vs ns : List ℕ) where
   -- a go of a task, in a machine of 2 tasks and 5 nodes, 2 of them free
   abbrev Goes : Task → Type 0
   Goes t =
-      go.Post κs (2, (5, (2, (lent cells, (lent values, (lent counts, (t, tt))))))) z (2, (5, (2, (lent cs, (lent vs, (lent ns, (t, tt)))))))
+      go.Post κs (2, (5, (2, (lent_mut cells, (lent_mut values, (lent_mut counts, (t, tt))))))) z (2, (5, (2, (lent_mut cs, (lent_mut vs, (lent_mut ns, (t, tt)))))))
 
   -- a go in phase 6 that moves
   pub linked_go_moves : Goes (at 6) → number_of z.answer ≡ 0 → ⊥
@@ -107,8 +107,8 @@ module _ (κs : Lfts 3) (z : Turned) (cs vs ns : List ℕ) where
   -- an entry of task q, a kind, cell x, a spare byte and value y, in that machine, which has 1 cell
   abbrev Turns : Task → ℕ → ℕ → ℕ → ℕ → ℕ → Type 0
   Turns t q kind x spare y =
-      turn.Post κs (1, (2, (5, (2, (lent cells, (lent values, (lent counts, (t, (record { 0 = q }, (kind, (cell_no x, (spare, (y, tt))))))))))))) z
-      (1, (2, (5, (2, (lent cs, (lent vs, (lent ns, (t, (record { 0 = q }, (kind, (cell_no x, (spare, (y, tt)))))))))))))
+      turn.Post κs (1, (2, (5, (2, (lent_mut cells, (lent_mut values, (lent_mut counts, (t, (record { 0 = q }, (kind, (cell_no x, (spare, (y, tt))))))))))))) z
+      (1, (2, (5, (2, (lent_mut cs, (lent_mut vs, (lent_mut ns, (t, (record { 0 = q }, (kind, (cell_no x, (spare, (y, tt)))))))))))))
 
   -- an entry of kind 5 that is accepted
   pub kind_five_accepted : Turns (at 6) 0 5 0 0 0 → number_of z.answer ≡ 0 → ⊥

@@ -57,7 +57,7 @@ same_value =
     ++ store 0 0 8 ∷ replicate 2 (go 0)  -- 16: task 0 has compared 7 with 7 and swapped
     ++ go 1 ∷ go 0 ∷ []  -- 18: task 1 did S3, and task 0's S3 leaves 1
 
--- Comparing values in a validate. The first 13 entries are those of `sameValue`; then task 0 asks whether its link is good.
+-- Comparing values in a validate. The first 13 entries are those of `same_value`; then task 0 asks whether its link is good.
 unfoldable pub asks_after : List (List ℕ)
 unfolding same_value
 asks_after = take 13 same_value ++ validate 0 ∷ go 0 ∷ []  -- 15: task 0 has compared 7 with 7

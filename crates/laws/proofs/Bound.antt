@@ -1,4 +1,4 @@
--- The steps spent in loads: two sums over the tasks pay for them, whatever the entries and whichever cells are counted. Assumes nothing.
+-- The steps spent in loads: two sums over the tasks pay for them (Sums), whatever the entries and whichever cells are counted. Assumes nothing.
 use Prim.Native.Nat.{ℕ, ◌+◌, ◌-◌, ◌*◌, ◌≤◌, ◌<◌}
 use native.Mathlib.Omega.{arith}
 use native.Mathlib.Decide.{ℕ_discrete}
@@ -9,8 +9,8 @@ use lib.Dec.{eqb}
 use lib.ListN.{length, get_or, set, replicate, length-set, length-replicate}
 use lib.Seq.{get_or-set_same, get_or-set_other}
 use borrow.Author.Tests.{eq-eqb, ne_eqb}
-use Rattle.tallies.specs.Lists.{within, fill_to}
-use Rattle.tallies.specs.Tally.{bit, tally}
+use Rattle.tallies.specs.Lists.{fill_to}
+use Rattle.tallies.specs.Tally.{tally}
 use Rattle.tallies.proofs.Lists.{fill_length}
 use Rattle.tallies.proofs.Tally.{tally-set, tally-same, tally_fill, total-same, total-zero}
 use Rattle.tallies.proofs.Bounds.{bit_and, both_le, tally_short}
@@ -20,43 +20,15 @@ use Rattle.wire.specs.Bytes.{word_at}
 use Rattle.cells.specs.Machine.{seen_of, cells_after}
 use Rattle.cells.specs.Apply.{apply_of}
 use Rattle.cells.specs.Setup.{fresh_of, setup_of}
-use Rattle.runs.specs.Counts.{accepted, kind_of, task_of, loads_at, steps_at, turned_at, swaps_at}
-use Rattle.laws.specs.Types.{Task, Call, Load, Store, Release, Validate, Moved, Nothing, Deed, Machine, Applied, Ready}
+use Rattle.runs.specs.Counts.{kind_of, task_of, loads_at, steps_at, turned_at, swaps_at}
+use Rattle.laws.specs.Types.{Task, Call, Load, Store, Release, Validate, Moved, Nothing, Deed, Machine, Ready}
 use Rattle.laws.specs.Schedules.{applied, over}
 use Rattle.laws.proofs.Entries.{Asks, begun_by, stepped_by, by_entry}
 use Rattle.laws.proofs.Start.{by_setup}
 use Rattle.laws.proofs.Rows.{Moves, l1, l2, l3-passed, l3_turned, l4, l5, s1, s2-swapped, s2_missed, s3-took, s3_shared, s5, s6-took, s6_busy, s7, r1, v1-good, v1-gone, moves}
+use Rattle.laws.proofs.Sums.{left, stale, Pays, Settles, Swings, Paid, Bounded}
 
 module _ (on : ℕ → Bool) where
-  -- the steps that a load still has to make, a check that turns back not counted
-  abbrev pub left : Task → ℕ
-  left t = bit (on t.cell.0) * get_or (0 ∷ 4 ∷ 3 ∷ 2 ∷ 1 ∷ 5 ∷ []) t.phase 0
-
-  -- a load that has read its pointer, which has changed since
-  abbrev pub stale : List ℕ → Task → ℕ
-  stale cells t = bit (on t.cell.0) * bit ((eqb t.phase 2 || eqb t.phase 3) && not (eqb (get_or cells t.cell.0 0) t.held.0))
-
-  -- what an entry counts for, by its outcome
-  abbrev counted : ℕ → List ℕ → Applied → Bool
-  counted k e a = accepted a.answer && eqb (kind_of e) k && on (task_of a.machine e).cell.0
-
-  abbrev Pays : Machine → List ℕ → Applied → Type 0
-  Pays m e a =
-      (bit (counted 0 e a && within 1 5 (task_of m e).phase) + tally left m.p a.machine.tasks
-      ≡ tally left m.p m.tasks + 4 * (bit (counted 1 e a) + bit (counted 0 e a && eqb (task_of m e).phase 3 && eqb (task_of a.machine e).phase 5)))
-      × (bit (counted 0 e a && eqb (task_of m e).phase 3 && eqb (task_of a.machine e).phase 5) + tally (stale a.machine.cells) m.p a.machine.tasks
-      ≤ tally (stale m.cells) m.p m.tasks
-      + (m.p - 1) * bit (counted 0 e a && eqb (task_of m e).phase 8 && eqb (task_of a.machine e).phase 9))
-
-  -- a task that an entry of kind κ takes from t to t' pays by its own part of the two sums
-  abbrev turns : ℕ → Task → Task → ℕ
-  turns κ t t' = bit (eqb κ 0) * bit (on t'.cell.0) * bit (eqb t.phase 3) * bit (eqb t'.phase 5)
-
-  abbrev Settles : List ℕ → ℕ → Task → Task → Type 0
-  Settles cells κ t t' =
-      (bit (eqb κ 0) * bit (on t'.cell.0) * bit (within 1 5 t.phase) + left t' ≡ left t + 4 * (bit (eqb κ 1) * bit (on t'.cell.0) + turns κ t t'))
-      × (turns κ t t' + stale cells t' ≤ stale cells t)
-
   module _ (m : Machine) (e : List ℕ) (h : m.p ≤ length m.tasks) (hp : get_or e 2 0 < m.p) where
     abbrev t : Task
     t = task_of m e
@@ -74,32 +46,31 @@ module _ (on : ℕ → Bool) where
     moved w f t' q = rw (ap (onward t) q) at (tally-set w m.p m.tasks (get_or e 2 0) t' no_task hp in_list)
 
     -- an entry that leaves the pointers
-    quiet : (κ f : ℕ) (d : Deed) → kind_of e ≡ κ → t.phase ≡ f → cells_after m d.write ≡ m.cells → Settles m.cells κ (at f) d.task → Pays m e (stepped_by m e d)
-    quiet κ f d k q c a = simp (bit_and, k, q, now d.task, c) (omega (arith, moved left f d.task q), omega (arith, moved (stale m.cells) f d.task q))
+    quiet : (κ f : ℕ) (d : Deed) → kind_of e ≡ κ → t.phase ≡ f → cells_after m d.write ≡ m.cells → Settles on m.cells κ (at f) d.task → Pays on m e (stepped_by m e d)
+    quiet κ f d k q c a = simp (bit_and, k, q, now d.task, c) (omega (arith, moved (left on) f d.task q), omega (arith, moved (stale on m.cells) f d.task q))
 
     -- a swap on a cell that is not counted leaves every weight as it was; one on a counted cell makes at most P - 1 loads stale
     abbrev swung : List ℕ
     swung = set m.cells t.cell.0 t.own.0
 
-    swing : (b : Bool) → on t.cell.0 ≡ b → t.phase ≡ 8
-        → tally (stale swung) m.p (set m.tasks (get_or e 2 0) (at 9)) ≤ tally (stale m.cells) m.p m.tasks + (m.p - 1) * bit b
+    swing : (b : Bool) → on t.cell.0 ≡ b → t.phase ≡ 8 → Swings on m swung (set m.tasks (get_or e 2 0) (at 9)) b
     swing true o q =
         omega (
           arith,
-          tally_short (stale swung) 1 m.p (set m.tasks (get_or e 2 0) (at 9)) (get_or e 2 0) no_task
+          tally_short (stale on swung) 1 m.p (set m.tasks (get_or e 2 0) (at 9)) (get_or e 2 0) no_task
               (λ y. both_le (on y.cell.0) ((eqb y.phase 2 || eqb y.phase 3) && not (eqb (get_or swung y.cell.0 0) y.held.0))) hp (rw length-set in_list),
-          ap (stale swung) (now (at 9)),
+          ap (stale on swung) (now (at 9)),
         )
-    swing false o q = omega (arith, tally-same (stale swung) (stale m.cells) m.p (set m.tasks (get_or e 2 0) (at 9)) same, moved (stale m.cells) 8 (at 9) q)
+    swing false o q = omega (arith, tally-same (stale on swung) (stale on m.cells) m.p (set m.tasks (get_or e 2 0) (at 9)) same, moved (stale on m.cells) 8 (at 9) q)
       where
-        same : (y : Task) → stale swung y ≡ stale m.cells y
+        same : (y : Task) → stale on swung y ≡ stale on m.cells y
         same y =
             elim (ℕ_discrete y.cell.0 t.cell.0) [
               | yes w ↦ rw (ap on w ∙ o) (omega arith)
               | no w ↦ rw (get_or-set_other m.cells t.cell.0 y.cell.0 t.own.0 0 w)
             ]
 
-    row : (f : ℕ) (d : Deed) → kind_of e ≡ 0 → t.phase ≡ f → Moves t (seen_of m t) f d → Pays m e (stepped_by m e d)
+    row : (f : ℕ) (d : Deed) → kind_of e ≡ 0 → t.phase ≡ f → Moves t (seen_of m t) f d → Pays on m e (stepped_by m e d)
     row f d k q l1 = quiet 0 f d k q refl (rw (eq-eqb (get_or m.cells t.cell.0 0) (get_or m.cells t.cell.0 0) refl) (omega arith))
     row f d k q (l2 c) = quiet 0 f d k q refl (omega arith)
     row f d k q (l3-passed c) = quiet 0 f d k q refl (omega arith)
@@ -107,7 +78,7 @@ module _ (on : ℕ → Bool) where
     row f d k q l4 = quiet 0 f d k q refl (omega arith)
     row f d k q (l5 c) = quiet 0 f d k q refl (omega arith)
     row f d k q s1 = quiet 0 f d k q refl (omega arith)
-    row f d k q (s2-swapped c) = simp (bit_and, k, q, now (at 9)) (omega (arith, moved left 8 (at 9) q), omega (arith, swing (on t.cell.0) refl q))
+    row f d k q (s2-swapped c) = simp (bit_and, k, q, now (at 9)) (omega (arith, moved (left on) 8 (at 9) q), omega (arith, swing (on t.cell.0) refl q))
     row f d k q (s2_missed c) = quiet 0 f d k q refl (omega arith)
     row f d k q (s3-took c) = quiet 0 f d k q refl (omega arith)
     row f d k q (s3_shared h c) = quiet 0 f d k q refl (omega arith)
@@ -120,13 +91,13 @@ module _ (on : ℕ → Bool) where
     row f d k q (v1-gone c) = quiet 0 f d k q refl (omega arith)
 
   -- every entry pays, and leaves P and the table's length
-  entry_pays : (m : Machine) (e : List ℕ) → m.p ≤ length m.tasks → Pays m e (apply_of m e)
+  entry_pays : (m : Machine) (e : List ℕ) → m.p ≤ length m.tasks → Pays on m e (apply_of m e)
   entry_pays m e h =
-      by_entry m e (Pays m e) (λ i r w. omega arith) (λ a l. begun 1 0 (Load (cell_no (get_or e 4 0))) a (omega arith))
+      by_entry m e (Pays on m e) (λ i r w. omega arith) (λ a l. begun 1 0 (Load (cell_no (get_or e 4 0))) a (omega arith))
       (λ a l. begun 2 6 (Store (word_at e 6)) a (omega arith)) (λ a. rw a.kind (omega arith)) (λ a. begun 3 6 Release a (omega arith)) (λ a. begun 4 6 Validate a (omega arith))
       (λ d s. row m e h s.task (task_of m e).phase d s.kind refl (moves (task_of m e) (seen_of m (task_of m e)) d s.does))
     where
-      begun : (κ f : ℕ) (c : Call) → Asks m e κ f → Settles m.cells κ (onward (task_of m e) f) (begun_of (task_of m e) c) → Pays m e (begun_by m e c)
+      begun : (κ f : ℕ) (c : Call) → Asks m e κ f → Settles on m.cells κ (onward (task_of m e) f) (begun_of (task_of m e) c) → Pays on m e (begun_by m e c)
       begun κ f c a = quiet m e h a.task κ f (record { task = begun_of (task_of m e) c; write = Nothing; reply = Moved }) a.kind a.phase refl
 
   stays : (m : Machine) (e : List ℕ) → ((apply_of m e).machine.p ≡ m.p) × (length (apply_of m e).machine.tasks ≡ length m.tasks)
@@ -135,10 +106,7 @@ module _ (on : ℕ → Bool) where
       (λ a l. (refl, simp length-set)) (λ a l. (refl, simp length-set)) (λ a. (refl, refl)) (λ a. (refl, simp length-set)) (λ a. (refl, simp length-set)) (λ d s. (refl, simp length-set))
 
   -- and so does every schedule
-  pub run_pays : (es : List (List ℕ)) (m : Machine) → m.p ≤ length m.tasks
-      → (over (steps_at on) m es + tally left m.p (applied m es).tasks ≡ tally left m.p m.tasks + 4 * (over (loads_at on) m es + over (turned_at on) m es))
-      × (over (turned_at on) m es + tally (stale (applied m es).cells) m.p (applied m es).tasks
-      ≤ tally (stale m.cells) m.p m.tasks + (m.p - 1) * over (swaps_at on) m es)
+  pub run_pays : (es : List (List ℕ)) (m : Machine) → m.p ≤ length m.tasks → Paid on m es
   unfolding over applied
   run_pays [] m h = omega arith
   run_pays (e ∷ es) m h =
@@ -152,27 +120,23 @@ module _ (on : ℕ → Bool) where
       tally_fill w (λ i. idle_owning (node_no (n + i))) p (replicate 16 no_task) (rw length-replicate h)
       ∙ total-same (λ i. w (idle_owning (node_no (n + i)))) (λ i. 0) p (λ i l. z (n + i)) ∙ total-zero p
 
-  abbrev Bounded : Machine → Type 0
-  Bounded m = (es : List (List ℕ)) → (over (steps_at on) m es ≤ 4 * (over (loads_at on) m es + over (turned_at on) m es))
-      × (over (turned_at on) m es ≤ (m.p - 1) * over (swaps_at on) m es)
-
-  fresh_bound : (n p k : ℕ) (s : List ℕ) → p ≤ 16 → Bounded (fresh_of n p k s)
+  fresh_bound : (n p k : ℕ) (s : List ℕ) → p ≤ 16 → (es : List (List ℕ)) → Bounded on (fresh_of n p k s) es
   unfolding fresh_of
   fresh_bound n p k s h es =
       let tasks = replicate 16 no_task in
       omega (
         arith,
         run_pays es (fresh_of n p k s) (rw (fill_length (λ i. idle_owning (node_no (n + i))) p tasks, length-replicate) h),
-        fresh-none left n p h (λ i. omega arith),
-        fresh-none (stale (fill_to (λ i. i) n (replicate 64 0))) n p h (λ i. omega arith),
+        fresh-none (left on) n p h (λ i. omega arith),
+        fresh-none (stale on (fill_to (λ i. i) n (replicate 64 0))) n p h (λ i. omega arith),
       )
 
   module _ (s : List ℕ) (used : ℕ) (ready : (setup_of s).answer ≡ Ready used) (es : List (List ℕ)) where
     abbrev m : Machine
     m = (setup_of s).machine
 
-    bounded : (over (steps_at on) m es ≤ 4 * (over (loads_at on) m es + over (turned_at on) m es)) × (over (turned_at on) m es ≤ (m.p - 1) * over (swaps_at on) m es)
-    bounded = by_setup s used Bounded (λ n p k z. fresh_bound n p k s z.tasks) ready es
+    bounded : Bounded on m es
+    bounded = by_setup s used (λ z. Bounded on z es) (λ n p k z. fresh_bound n p k s z.tasks es) ready
 
     -- each swap that took turns back at most P - 1 checks
     pub turned_bound : over (turned_at on) m es ≤ (m.p - 1) * over (swaps_at on) m es

@@ -36,7 +36,7 @@ use Rattle.laws.proofs.Table.{entry-keeps}
 use Rattle.laws.proofs.Start.{by_setup}
 use Rattle.laws.proofs.Runs.{by_run}
 use Rattle.laws.proofs.Reached.{reached_kept}
-use Rattle.laws.proofs.Room.{weighs, takes_up, two, per_node, in_use, shares, used_up}
+use Rattle.laws.proofs.Room.{weighs, takes_up, two, per_node, in_use, shares, used_up, Spared}
 
 -- the phases of a task whose m is the node that it read
 abbrev has_read : ℕ → Bool
@@ -139,7 +139,7 @@ module _ (m : Machine) (K : Kept m) (s : Some m) where
         )
       ]
 
-  crowded : (live mine.phase && holds mine.phase) ≡ true → used m + 1 ≤ m.n + 2 * m.p
+  crowded : (live mine.phase && holds mine.phase) ≡ true → Spared m
   crowded b =
       let v = mine.held.0 in
       let c = s.2 (phase-gives (λ f. live f && holds f) has_read tt mine.phase in_mine.phase (rw b tt)) in
@@ -154,9 +154,9 @@ module _ (m : Machine) (K : Kept m) (s : Some m) where
         tally_most (weighs m.k) 2 m.p m.tasks (two m.k),
       )
 
-  one_less : used m + 1 ≤ m.n + 2 * m.p
+  one_less : Spared m
   one_less =
-      either (λ b. used m + 1 ≤ m.n + 2 * m.p) (live mine.phase && holds mine.phase) crowded
+      either (λ b. Spared m) (live mine.phase && holds mine.phase) crowded
       (λ b. omega (
         arith,
         used_up m K,

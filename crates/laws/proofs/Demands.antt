@@ -64,7 +64,8 @@ use Rattle.laws.proofs.Free.{told_free, notes_leave, notes_past, notes_free}
 use Rattle.laws.proofs.Busy.{busy_most}
 use Rattle.laws.proofs.Bound.{load_bound, turned_bound}
 use Rattle.laws.proofs.Numbers.{run_starts, run_is, chain_loads, chain_steps, chain_swaps}
-use Rattle.laws.proofs.Solo.{load_solo, store_solo, store_sooner, release_solo, validate_solo}
+use Rattle.laws.proofs.Solo.{load_solo, store_sooner, release_solo, validate_solo}
+use Rattle.laws.proofs.Stored.{store_solo}
 use Rattle.laws.proofs.Sharp as Sharp
 
 -- DEMAND 1. Whatever is handed over is answered or refused with a number, and a refusal changes nothing beyond what its answer takes up.
@@ -107,7 +108,7 @@ never_damaged {m} r = (in_range_lem m (reached_kept r), entry_undamaged m (reach
 pub ranges_kept : (m : Machine) → Long m → in_range m ≡ true → (e : List ℕ) → in_range (apply_of m e).machine ≡ true
 ranges_kept = keeps_ranges
 
--- and so after every entry of a schedule: `applyOf` tests the ranges first, and in a run from such a record that test never fails (Ranges)
+-- and so after every entry of a schedule: `apply_of` tests the ranges first, and in a run from such a record that test never fails (Ranges)
 pub ranges_kept_on : (m : Machine) → Long m → in_range m ≡ true → (es : List (List ℕ)) → in_range (applied m es) ≡ true
 ranges_kept_on = schedule_ranges
 
@@ -125,7 +126,7 @@ pub past_makes_no_difference : (m m' : Machine) → Alike m m' → (e : List ℕ
 past_makes_no_difference = entry_alike
 
 -- DEMAND 2. An accepted entry begins a call, does the step of the table or is a store that is lost at once, and nothing else; and over every schedule
--- from an accepted setup the cells' values and what finished calls gave are figure 1's, each call acting where the demand says (`actsFrom` and, for a
+-- from an accepted setup the cells' values and what finished calls gave are figure 1's, each call acting where the demand says (`acts_from` and, for a
 -- store without a link, `at_once` in laws/specs/Acts).
 
 -- a record reached from an accepted setup takes exactly the entries that fit it: whole and marked, of a task below P, and what that task may be

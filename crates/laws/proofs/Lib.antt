@@ -16,8 +16,10 @@ pub mod Engine
 pub mod Stores
 pub mod Validate
 pub mod Numbers
+pub mod Sums
 pub mod Bound
 pub mod Solo
+pub mod Stored
 pub mod Counts
 pub mod Free
 pub mod Busy

@@ -19,6 +19,10 @@ use Rattle.laws.specs.Meaning.{points, owns, swapped, pointers, used_in, free_in
 use Rattle.laws.specs.Kept.{Kept}
 use Rattle.laws.proofs.Keeps.{task, in_list}
 
+-- at most N + 2P - 1 nodes are in use (proved in Busy)
+abbrev pub Spared : Machine → Type 0
+Spared m = used m + 1 ≤ m.n + 2 * m.p
+
 -- a node in phase 9's hands is a node that the task holds
 swapped-keeps : (i : ℕ) (t : Task) → swapped i t ≤ keeps i t
 swapped-keeps i t = elim (ℕ_discrete t.phase 9) [ yes q ↦ rw q (omega arith) | no q ↦ rw (ne_eqb t.phase 9 q) (omega arith) ]

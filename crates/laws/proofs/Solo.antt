@@ -198,10 +198,6 @@ module _ (p : ℕ) where
         (λ q k. (tt, omega arith)) (λ q k. absurd k) (λ q k. absurd k) (task m p).phase (K.sound.each p hp).phase refl b in
         solo (all + 2) m K hp r.0 r.1
 
-    -- so within N + 2P + 3
-    pub store_solo : T (storing (task m p).phase) → Within (m.n + 2 * m.p + 3) m p
-    store_solo b = more (m.n + 2 * m.p + 2) (m.n + 2 * m.p + 3) m p (omega arith) (store_sooner b)
-
     -- a release ends at its one step
     pub release_solo : (task m p).phase ≡ 14 → Within 1 m p
     release_solo q = solo 1 m K hp (rw q tt) (rw q (omega arith))
