@@ -1,4 +1,4 @@
--- What is decided over lent tables is what is decided of the machine, so that carrying it out is `applyOf`. Assumes nothing.
+-- What is decided over lent tables is what is decided of the machine, so that carrying it out is `apply_of`. Assumes nothing.
 use Prim.Native.Nat.{ℕ, ◌≤◌, ◌<◌, min}
 use mathlib.Core.Path.{◌≡◌, refl, sym, ap, ◌∙◌}
 use mathlib.Core.Bool.{Bool, true, false, cond, not, ◌&&◌}

@@ -1,1 +1,2 @@
 // No code here: what it means that a contract allows one result.
+#![tactic(auto)]

@@ -1,4 +1,4 @@
--- THE CURSOR PAST THE LAST NODE. A run tests the ranges once, at its start, and is right because an entry keeps them (`keeps-ranges` in `cells`). By a
+-- THE CURSOR PAST THE LAST NODE. A run tests the ranges once, at its start, and is right because an entry keeps them (`keeps_ranges` in `cells`). By a
 -- table whose S6 goes on without mod K an entry doesn't, and a run that tests once would not be right over it. Assumes nothing.
 use Prim.Native.Nat.{ℕ}
 use mathlib.Core.Path.{◌≡◌, refl}
@@ -42,7 +42,7 @@ pub mended_wraps : ((get_or (afterwards mended fresh last_node).tasks 1 no_task)
 unfolding computing afterwards answered last_node
 mended_wraps = (refl, refl, refl)
 
--- So an entry by this table doesn't keep the ranges, not even those of a record that the true table reaches: `keeps-ranges` is false of it.
+-- So an entry by this table doesn't keep the ranges, not even those of a record that the true table reaches: `keeps_ranges` is false of it.
 pub unwrapping_keeps_not : ((m : Machine) → Reached m → Long m → in_range m ≡ true → (e : List ℕ) → in_range (unwrapping.apply m e).machine ≡ true) → ⊥
 unfolding computing applied last_node
 unwrapping_keeps_not h =

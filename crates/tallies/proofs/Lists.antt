@@ -1,4 +1,4 @@
--- Laws of `every`, `fillTo` and `within`, some of them one turn of a loop at a time, and of tests. Assumes nothing.
+-- Laws of `every`, `fill_to` and `within`, some of them one turn of a loop at a time, and of tests. Assumes nothing.
 use Prim.Native.Nat.{ℕ, zero, suc, ◌+◌, ◌-◌, ◌<◌, ◌≤◌}
 use mathlib.Core.Path.{◌≡◌, refl, sym, ◌∙◌}
 use mathlib.Core.Logic.{◌≢◌, ◌⊎◌, inl, inr}

@@ -1,1 +1,2 @@
 // No code here: counting, and lists that are tested or filled place by place.
+#![tactic(auto)]

@@ -172,7 +172,7 @@ pub fn begin(t: &mut Task, c: Call)
     *t = begun(*t, c);
 }
 
-// The bridge: code that the borrow checker covers can't make a reference to a record, so it hands a copy here, which is lent.
+// The bridge: a record that is handed over by value, of which a copy is lent.
 pub fn lent_begin(t: Task, c: Call) -> Task
     ensures { result ≡ begun_of t c }
 {
