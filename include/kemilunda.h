@@ -1,6 +1,6 @@
 /*
  * The proved step bench for C. Link target/staticlib/libkemilunda.a, which
- * `rt staticlib kemilunda` makes. It keeps no state, and asks the linker for
+ * tests/archive makes. It keeps no state, and asks the linker for
  * memcpy, memset, memmove and memcmp at most (tests/link/run looks). A setup and
  * its run take less than 2 KiB of stack, any other function less than 256 bytes
  * (tests/speed/stack looks; docs/SPEED.md has the figures).

@@ -1,78 +1,79 @@
 // 22 by the ranges: the sizes, the number of free nodes, cell 1, node 50 and task 0 are damaged, and the entry, a load, speaks of cell 0 and task 1.
 use crate::{hurts, lines, shows};
+use std::io;
 use tasks::{Task, TaskNo};
 
 const LOAD: u8 = 1;
 
 // No node is free, so that there are not more than K.
-fn sized(n: u8, p: u8, k: u8) {
-    lines::sizes(n, p, k);
+fn sized(rt: &impl Print, n: u8, p: u8, k: u8) -> io::Result<()> {
+    lines::sizes(rt, n, p, k)?;
     let mut d = hurts::freed(0);
     d.n = n;
     d.p = p;
     d.k = k;
-    shows::shows(d, LOAD);
+    shows::shows(rt, d, LOAD)
 }
 
-pub(crate) fn sizes() {
-    sized(2, 2, 100);
-    sized(0, 2, 100);
-    sized(64, 2, 100);
-    sized(65, 2, 100);
-    sized(2, 0, 100);
-    sized(2, 16, 100);
-    sized(2, 17, 100);
-    sized(2, 2, 0);
-    sized(2, 2, 5);
-    sized(2, 2, 6);
-    sized(2, 2, 128);
-    sized(2, 2, 129);
+pub(crate) fn sizes(rt: &impl Print) -> io::Result<()> {
+    sized(rt, 2, 2, 100)?;
+    sized(rt, 0, 2, 100)?;
+    sized(rt, 64, 2, 100)?;
+    sized(rt, 65, 2, 100)?;
+    sized(rt, 2, 0, 100)?;
+    sized(rt, 2, 16, 100)?;
+    sized(rt, 2, 17, 100)?;
+    sized(rt, 2, 2, 0)?;
+    sized(rt, 2, 2, 5)?;
+    sized(rt, 2, 2, 6)?;
+    sized(rt, 2, 2, 128)?;
+    sized(rt, 2, 2, 129)
 }
 
-fn freed(free: u8) {
-    lines::free(free);
-    shows::shows_free(hurts::freed(free), LOAD);
+fn freed(rt: &impl Print, free: u8) -> io::Result<()> {
+    lines::free(rt, free)?;
+    shows::shows_free(rt, hurts::freed(free), LOAD)
 }
 
-pub(crate) fn frees() {
-    freed(0);
-    freed(100);
-    freed(101);
-    freed(255);
+pub(crate) fn frees(rt: &impl Print) -> io::Result<()> {
+    freed(rt, 0)?;
+    freed(rt, 100)?;
+    freed(rt, 101)?;
+    freed(rt, 255)
 }
 
 // Cell 1 points at v, and node 50 has count c.
-fn tabled(v: u8, c: u8) {
-    lines::tables(v, c);
+fn tabled(rt: &impl Print, v: u8, c: u8) -> io::Result<()> {
+    lines::tables(rt, v, c)?;
     let mut d = hurts::sound();
     d.cells[1] = v;
     d.counts[50] = c;
-    shows::shows(d, LOAD);
+    shows::shows(rt, d, LOAD)
 }
 
-pub(crate) fn tables() {
-    tabled(99, 3);
-    tabled(100, 0);
-    tabled(255, 0);
-    tabled(1, 4);
-    tabled(1, 255);
+pub(crate) fn tables(rt: &impl Print) -> io::Result<()> {
+    tabled(rt, 99, 3)?;
+    tabled(rt, 100, 0)?;
+    tabled(rt, 255, 0)?;
+    tabled(rt, 1, 4)?;
+    tabled(rt, 1, 255)
 }
 
-fn recorded(phase: u8, x: u8, m: u8, own: u8, cursor: u8) {
-    lines::record(phase, x, m, own, cursor);
+fn recorded(rt: &impl Print, phase: u8, x: u8, m: u8, own: u8, cursor: u8) -> io::Result<()> {
+    lines::record(rt, phase, x, m, own, cursor)?;
     let t = hurts::task(phase, x, m, own, cursor);
-    shows::shows(hurts::replaced(TaskNo(0), t), LOAD);
+    shows::shows(rt, hurts::replaced(TaskNo(0), t), LOAD)
 }
 
-pub(crate) fn records() {
-    recorded(15, 1, 99, 99, 99);
-    recorded(10, 0, 0, 2, 0);
-    recorded(16, 0, 0, 2, 0);
-    recorded(255, 0, 0, 2, 0);
-    recorded(0, 2, 0, 2, 0);
-    recorded(0, 0, 100, 2, 0);
-    recorded(0, 0, 0, 100, 0);
-    recorded(0, 0, 0, 2, 100);
+pub(crate) fn records(rt: &impl Print) -> io::Result<()> {
+    recorded(rt, 15, 1, 99, 99, 99)?;
+    recorded(rt, 10, 0, 0, 2, 0)?;
+    recorded(rt, 16, 0, 0, 2, 0)?;
+    recorded(rt, 255, 0, 0, 2, 0)?;
+    recorded(rt, 0, 2, 0, 2, 0)?;
+    recorded(rt, 0, 0, 100, 2, 0)?;
+    recorded(rt, 0, 0, 0, 100, 0)?;
+    recorded(rt, 0, 0, 0, 2, 100)
 }
 
 fn fill(table: &mut [u8], from: usize) {
@@ -95,8 +96,8 @@ fn filled(old: [Task; 16]) -> [Task; 16] {
 }
 
 // Every place past N, P and K in the tables that the range test looks at.
-pub(crate) fn unused() {
-    io::write_all(1, b"rubbish past N, P and K");
+pub(crate) fn unused(rt: &impl Print) -> io::Result<()> {
+    print!(rt; "rubbish past N, P and K")?;
     let mut d = hurts::sound();
     let mut cells = d.cells;
     let mut counts = d.counts;
@@ -107,5 +108,5 @@ pub(crate) fn unused() {
     d.counts = counts;
     let records = filled(tasks);
     d.tasks = records;
-    shows::shows(d, LOAD);
+    shows::shows(rt, d, LOAD)
 }

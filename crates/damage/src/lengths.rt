@@ -3,6 +3,7 @@ ghost use Rattle.std.specs.Prelude.{◌≤◌};
 
 use crate::{hurts, lines, same, shows};
 use cells::{Applied, Machine};
+use std::io;
 use tasks::TaskNo;
 
 const LOAD: u8 = 1;
@@ -12,23 +13,23 @@ fn record(phase: u8) -> Machine {
 }
 
 // A run of the first n bytes of a load and a go, with room for that many bytes of replies.
-fn ran(phase: u8, n: usize, room: usize)
+fn ran(rt: &impl Print, phase: u8, n: usize, room: usize) -> io::Result<()>
     requires { (n ≤ 20) × (room ≤ 16) }
 {
-    lines::run(n, room, phase);
+    lines::run(rt, n, room, phase)?;
     let s = shows::two(LOAD);
     let mut out = [0xAAu8; 16];
-    shows::run(record(phase), &s[..n], &mut out[..room]);
+    shows::run(rt, record(phase), &s[..n], &mut out[..room])
 }
 
-pub(crate) fn runs() {
-    ran(0, 20, 16);
-    ran(0, 20, 15);
-    ran(0, 11, 16);
-    ran(0, 11, 15);
-    ran(0, 0, 0);
-    ran(16, 20, 15);
-    ran(16, 0, 0);
+pub(crate) fn runs(rt: &impl Print) -> io::Result<()> {
+    ran(rt, 0, 20, 16)?;
+    ran(rt, 0, 20, 15)?;
+    ran(rt, 0, 11, 16)?;
+    ran(rt, 0, 11, 15)?;
+    ran(rt, 0, 0, 0)?;
+    ran(rt, 16, 20, 15)?;
+    ran(rt, 16, 0, 0)
 }
 
 // The first n bytes of a load and a go, taken as one entry.
@@ -39,12 +40,12 @@ fn taken(phase: u8, n: usize) -> Applied
     record(phase).apply(&s[..n])
 }
 
-fn tried(phase: u8, n: usize)
+fn tried(rt: &impl Print, phase: u8, n: usize) -> io::Result<()>
     requires { n ≤ 20 }
 {
-    lines::entry(n, phase);
-    shows::entry(record(phase), taken(phase, n));
-    io::write_all(1, b"\n");
+    lines::entry(rt, n, phase)?;
+    shows::entry(rt, record(phase), taken(phase, n))?;
+    println!(rt;)
 }
 
 fn after(n: usize) -> Machine
@@ -55,12 +56,12 @@ fn after(n: usize) -> Machine
     m
 }
 
-pub(crate) fn entries() {
-    tried(0, 9);
-    tried(0, 10);
-    tried(0, 20);
-    tried(16, 0);
-    io::write_all(1, b"record of 20 bytes, against that of their first 10:");
-    lines::kept(same::same(after(20), after(10)));
-    io::write_all(1, b"\n");
+pub(crate) fn entries(rt: &impl Print) -> io::Result<()> {
+    tried(rt, 0, 9)?;
+    tried(rt, 0, 10)?;
+    tried(rt, 0, 20)?;
+    tried(rt, 16, 0)?;
+    print!(rt; "record of 20 bytes, against that of their first 10:")?;
+    lines::kept(rt, same::same(after(20), after(10)))?;
+    println!(rt;)
 }

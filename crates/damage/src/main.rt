@@ -15,6 +15,8 @@
 // - `entry of .. bytes`: an entry is its first ten bytes, and what follows changes nothing. 22 comes before 20.
 #![tactic(auto)]
 
+use std::io;
+
 mod asks;
 mod by_range;
 mod by_step;
@@ -24,15 +26,15 @@ mod lines;
 mod same;
 mod shows;
 
-fn main() {
-    by_range::sizes();
-    by_range::frees();
-    by_range::tables();
-    by_range::records();
-    by_range::unused();
-    by_step::steps();
-    by_step::frees();
-    asks::numbers();
-    lengths::runs();
-    lengths::entries();
+fn main(rt: HostRuntime) -> io::Result<()> {
+    by_range::sizes(&rt)?;
+    by_range::frees(&rt)?;
+    by_range::tables(&rt)?;
+    by_range::records(&rt)?;
+    by_range::unused(&rt)?;
+    by_step::steps(&rt)?;
+    by_step::frees(&rt)?;
+    asks::numbers(&rt)?;
+    lengths::runs(&rt)?;
+    lengths::entries(&rt)
 }

@@ -1,4 +1,4 @@
-// The library for C: numbers and slices only. The header is include/kemilunda.h.
+// What the library for C does: numbers and slices only. The crate kemilunda_c exports each function of it.
 #![tactic(auto)]
 
 ghost use Rattle.std.specs.Prelude.{◌≡◌, length};
@@ -12,8 +12,7 @@ use runs::{Outcome, Report};
 use texts::TextAnswer;
 
 // 0 for a setup that is accepted, else its refusal.
-#[unsafe(no_mangle)]
-pub extern "C" fn kemilunda_setup(input: &[u8]) -> u32
+pub fn kemilunda_setup(input: &[u8]) -> u32
     ensures { result ≡ setup_refusal input.now }
 {
     let h = cells::start::read_head(input);
@@ -22,8 +21,7 @@ pub extern "C" fn kemilunda_setup(input: &[u8]) -> u32
 }
 
 // How many bytes the setup used, 0 for a refused one: the schedule starts there.
-#[unsafe(no_mangle)]
-pub extern "C" fn kemilunda_setup_bytes(input: &[u8]) -> usize
+pub fn kemilunda_setup_bytes(input: &[u8]) -> usize
     ensures { result ≡ setup_used input.now }
 {
     let h = cells::start::read_head(input);
@@ -45,8 +43,7 @@ fn six(r: Report) -> [u32; 6]
 }
 
 // A setup and its schedule. A refused setup writes nothing and gives its number; else the run's replies, free nodes and six numbers are written: 0.
-#[unsafe(no_mangle)]
-pub extern "C" fn kemilunda_run_free(
+pub fn kemilunda_run_free(
     input: &[u8],
     replies: &mut [u8],
     free_nodes: &mut [u8],
@@ -64,8 +61,7 @@ pub extern "C" fn kemilunda_run_free(
 }
 
 // The same with no place for the numbers of free nodes.
-#[unsafe(no_mangle)]
-pub extern "C" fn kemilunda_run(input: &[u8], replies: &mut [u8], numbers: &mut [u32; 6]) -> u32
+pub fn kemilunda_run(input: &[u8], replies: &mut [u8], numbers: &mut [u32; 6]) -> u32
     ensures { (result ≡ setup_refusal input.now) × (replies.new ≡ replies_after input.now replies.old) × (numbers.new ≡ numbers_after input.now (length replies.old) numbers.old) }
 {
     let mut none: [u8; 0] = [];
@@ -87,8 +83,7 @@ fn told(a: TextAnswer, written: &mut usize) -> u32
 }
 
 // A schedule from text to entry bytes: 0, with how many bytes were written; or the refusal, and nothing is written.
-#[unsafe(no_mangle)]
-pub extern "C" fn kemilunda_import(text: &[u8], entries: &mut [u8], written: &mut usize) -> u32
+pub fn kemilunda_import(text: &[u8], entries: &mut [u8], written: &mut usize) -> u32
     ensures { (result ≡ text_number (answered (imported text.now) (length entries.old))) × (entries.new ≡ laid (imported text.now) entries.old) × (written.new ≡ written_by (answered (imported text.now) (length entries.old)) written.old) }
 {
     let a = texts::import(text, entries);
@@ -96,8 +91,7 @@ pub extern "C" fn kemilunda_import(text: &[u8], entries: &mut [u8], written: &mu
 }
 
 // And from entry bytes to text.
-#[unsafe(no_mangle)]
-pub extern "C" fn kemilunda_export(entries: &[u8], text: &mut [u8], written: &mut usize) -> u32
+pub fn kemilunda_export(entries: &[u8], text: &mut [u8], written: &mut usize) -> u32
     ensures { (result ≡ text_number (answered (exported entries.now) (length text.old))) × (text.new ≡ laid (exported entries.now) text.old) × (written.new ≡ written_by (answered (exported entries.now) (length text.old)) written.old) }
 {
     let a = texts::export(entries, text);

@@ -2,6 +2,7 @@
 ghost use Rattle.std.specs.Prelude.{◌≤◌};
 
 use crate::{lends, lines};
+use std::io;
 use tasks::{CellNo, NodeNo, Task};
 
 // A record in that phase, with node m held.
@@ -17,26 +18,26 @@ fn holding(phase: u8, m: u8) -> Task {
 }
 
 // A list of n such records, asked for node v.
-fn alike(label: &[u8], n: usize, phase: u8, m: u8, v: u8)
+fn alike(rt: &impl Print, label: &str, n: usize, phase: u8, m: u8, v: u8) -> io::Result<()>
     requires { n ≤ 17 }
 {
     let t = holding(phase, m);
-    lines::answer(label, lends::ask([t; 17], n, NodeNo(v)));
+    lines::answer(rt, label, lends::ask([t; 17], n, NodeNo(v)))
 }
 
 // A list of n linked records, of which the fourth alone holds node 5.
-fn fourth(label: &[u8], n: usize)
+fn fourth(rt: &impl Print, label: &str, n: usize) -> io::Result<()>
     requires { n ≤ 17 }
 {
     let t = holding(6, 6);
     let u = holding(6, 5);
     let mut ts = [t; 17];
     ts[3] = u;
-    lines::answer(label, lends::ask(ts, n, NodeNo(5)));
+    lines::answer(rt, label, lends::ask(ts, n, NodeNo(5)))
 }
 
 // A list of sixteen records in phases 0 to 15, each with node 5 as its m.
-fn phases_to_15(label: &[u8]) {
+fn phases_to_15(rt: &impl Print, label: &str) -> io::Result<()> {
     let t = holding(0, 5);
     let mut ts = [t; 17];
     let mut i: u8 = 0;
@@ -45,46 +46,46 @@ fn phases_to_15(label: &[u8]) {
         ts[i as usize] = u;
         i += 1;
     }
-    lines::answer(label, lends::ask(ts, 16, NodeNo(5)));
+    lines::answer(rt, label, lends::ask(ts, 16, NodeNo(5)))
 }
 
-pub(crate) fn lengths() {
-    alike(b"list of 0", 0, 6, 5, 5);
-    alike(b"list of 1 that holds it", 1, 6, 5, 5);
-    alike(b"list of 1 that holds another", 1, 6, 6, 5);
-    fourth(b"list of 3, the next one holds it", 3);
-    fourth(b"list of 4, the last holds it", 4);
-    alike(b"list of 16 that hold it", 16, 6, 5, 5);
-    phases_to_15(b"list of 16, phases 0 to 15");
-    alike(b"list of 17 that hold it", 17, 6, 5, 5);
-    alike(b"list of 17 that hold another", 17, 6, 6, 5);
+pub(crate) fn lengths(rt: &impl Print) -> io::Result<()> {
+    alike(rt, "list of 0", 0, 6, 5, 5)?;
+    alike(rt, "list of 1 that holds it", 1, 6, 5, 5)?;
+    alike(rt, "list of 1 that holds another", 1, 6, 6, 5)?;
+    fourth(rt, "list of 3, the next one holds it", 3)?;
+    fourth(rt, "list of 4, the last holds it", 4)?;
+    alike(rt, "list of 16 that hold it", 16, 6, 5, 5)?;
+    phases_to_15(rt, "list of 16, phases 0 to 15")?;
+    alike(rt, "list of 17 that hold it", 17, 6, 5, 5)?;
+    alike(rt, "list of 17 that hold another", 17, 6, 6, 5)
 }
 
-pub(crate) fn nodes() {
-    alike(b"node 0, held by 16", 16, 6, 0, 0);
-    alike(b"node 127, held by 16", 16, 6, 127, 127);
-    alike(b"node 127, held by none", 16, 6, 126, 127);
-    alike(b"node 128, held by 16", 16, 6, 128, 128);
-    alike(b"node 255, held by 16", 16, 6, 255, 255);
-    alike(b"node 128, list of 0", 0, 6, 128, 128);
+pub(crate) fn nodes(rt: &impl Print) -> io::Result<()> {
+    alike(rt, "node 0, held by 16", 16, 6, 0, 0)?;
+    alike(rt, "node 127, held by 16", 16, 6, 127, 127)?;
+    alike(rt, "node 127, held by none", 16, 6, 126, 127)?;
+    alike(rt, "node 128, held by 16", 16, 6, 128, 128)?;
+    alike(rt, "node 255, held by 16", 16, 6, 255, 255)?;
+    alike(rt, "node 128, list of 0", 0, 6, 128, 128)
 }
 
 // A list of one record in that phase, with node 5 as its m.
-fn one(phase: u8) {
+fn one(rt: &impl Print, phase: u8) -> io::Result<()> {
     let t = holding(phase, 5);
-    lines::phase_answer(phase, lends::ask([t; 17], 1, NodeNo(5)));
+    lines::phase_answer(rt, phase, lends::ask([t; 17], 1, NodeNo(5)))
 }
 
-pub(crate) fn phases() {
-    one(2);
-    one(3);
-    one(9);
-    one(10);
-    one(11);
-    one(12);
-    one(13);
-    one(14);
-    one(15);
-    one(16);
-    one(255);
+pub(crate) fn phases(rt: &impl Print) -> io::Result<()> {
+    one(rt, 2)?;
+    one(rt, 3)?;
+    one(rt, 9)?;
+    one(rt, 10)?;
+    one(rt, 11)?;
+    one(rt, 12)?;
+    one(rt, 13)?;
+    one(rt, 14)?;
+    one(rt, 15)?;
+    one(rt, 16)?;
+    one(rt, 255)
 }

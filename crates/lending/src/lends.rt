@@ -1,4 +1,4 @@
-// The two places where this program makes a reference to a record. The borrow checker covers no such function, so both are thin and proved by hand.
+// The two places where this program makes a reference to a record.
 ghost use Rattle.std.specs.Prelude.{◌≡◌, ◌<◌, ◌≤◌, get_or, set, take};
 ghost use Rattle.tasks.specs.Records.{no_task};
 ghost use Rattle.tasks.specs.Calls.{begun_of};

@@ -6,15 +6,17 @@
 // - `phase`: one record in that phase whose m is the node asked for: 3 to 9, 11 and 13 to 15 count, and no others.
 #![tactic(auto)]
 
+use std::io;
+
 mod asks;
 mod begins;
 mod lends;
 mod lines;
 
-fn main() {
-    begins::lone();
-    begins::row();
-    asks::lengths();
-    asks::nodes();
-    asks::phases();
+fn main(rt: HostRuntime) -> io::Result<()> {
+    begins::lone(&rt)?;
+    begins::row(&rt)?;
+    asks::lengths(&rt)?;
+    asks::nodes(&rt)?;
+    asks::phases(&rt)
 }

@@ -47,6 +47,7 @@ fn no_report(refusal: u8) -> Report
 }
 
 // A go entry in phases 1 to 5.
+#[tactic(auto, unfolding(crate::specs::OneEntry::load_step))]
 fn load_step(kind: u8, from: u8) -> u32
     ensures { result ≡ load_step kind from }
 {
@@ -60,6 +61,7 @@ fn load_step(kind: u8, from: u8) -> u32
 }
 
 // A go entry that goes from phase f to phase g.
+#[tactic(auto, unfolding(crate::specs::OneEntry::went_of))]
 fn went(f: u8, g: u8, kind: u8, from: u8, to: u8) -> u32
     ensures { result ≡ went_of f g kind from to }
 {

@@ -4,6 +4,8 @@
 ghost use Rattle.std.specs.Prelude.{◌≤◌, length};
 ghost use Rattle.texts.specs.Made.{text_bytes};
 
+use std::env::Env;
+use std::io;
 use texts::TextAnswer;
 
 fn same(a: &[u8], b: &[u8]) -> bool {
@@ -21,85 +23,88 @@ fn same(a: &[u8], b: &[u8]) -> bool {
     true
 }
 
-fn print(file: i32, text: &[u8], end: usize)
+fn print(file: &impl Print, text: &[u8], end: usize) -> io::Result<()>
     requires { end ≤ length text.now }
 {
-    io::write_all(file, &text[..end]);
+    file.write_all(&text[..end])
 }
 
 // A refusal goes to standard error, as `import 30`; standard output stays empty.
-fn refused(direction: &[u8], number: u8) {
+#[tactic(auto, using(wire::proofs::Laws::lengths, digits::proofs::Writing::end_within))]
+fn refused(err: &impl Print, direction: &str, number: u8) -> io::Result<()> {
     let mut text = [0u8; 3];
     let end = digits::put_number(&mut text, 0, number as u32);
-    io::write_all(2, direction);
-    io::write_all(2, b" ");
-    print(2, &text, end);
-    io::write_all(2, b"\n");
+    print!(err; "{direction} ")?;
+    print(err, &text, end)?;
+    println!(err;)
 }
 
-fn tell(direction: &[u8], a: TextAnswer, out: &[u8])
+fn tell(
+    rt: &impl Print,
+    err: &impl Print,
+    direction: &str,
+    a: TextAnswer,
+    out: &[u8],
+) -> io::Result<()>
     requires { text_bytes a ≤ length out.now }
 {
     let number = texts::text_number(a);
     if number != 0 {
-        refused(direction, number);
-        return;
+        return refused(err, direction, number);
     }
-    print(1, out, texts::text_bytes(a));
+    print(rt, out, texts::text_bytes(a))
 }
 
-fn import(text: &[u8]) {
+fn import(rt: &impl Print, err: &impl Print, text: &[u8]) -> io::Result<()> {
     let mut entries = [0u8; 65530];
     let a = texts::import(text, &mut entries);
-    tell(b"import", a, &entries);
+    tell(rt, err, "import", a, &entries)
 }
 
-fn export(entries: &[u8]) {
+fn export(rt: &impl Print, err: &impl Print, entries: &[u8]) -> io::Result<()> {
     let mut text = [0u8; 150719];
     let a = texts::export(entries, &mut text);
-    tell(b"export", a, &text);
+    tell(rt, err, "export", a, &text)
 }
 
 // A text that is not read whole is too long to be taken: 23 if it can be told by now, and else no number, as the refusal may hang on the rest.
-fn too_long(text: &[u8]) {
+fn too_long(err: &impl Print, text: &[u8]) -> io::Result<()> {
     let mut none: [u8; 0] = [];
     let a = texts::import(text, &mut none);
     if texts::text_number(a) == 23 {
-        refused(b"import", 23);
-        return;
+        return refused(err, "import", 23);
     }
-    io::write_all(2, b"import: more than 262143 bytes\n");
+    println!(err; "import: more than 262143 bytes")
 }
 
 // A text that is taken has at most 150,719 bytes.
-fn read_text() {
+fn read_text(rt: &(impl Input + Print), err: &impl Print) -> io::Result<()> {
     let mut text = [0u8; 262144];
-    let n = io::read_full(0, &mut text);
+    let n = streams::read_full(&mut rt.reader(), &mut text)?;
     if n == 262144 {
-        too_long(&text);
-        return;
+        return too_long(err, &text);
     }
-    import(&text[..n]);
+    import(rt, err, &text[..n])
 }
 
 // A schedule of 65,531 bytes is the shortest that is too long.
-fn read_entries() {
+fn read_entries(rt: &(impl Input + Print), err: &impl Print) -> io::Result<()> {
     let mut entries = [0u8; 65531];
-    let n = io::read_full(0, &mut entries);
-    export(&entries[..n]);
+    let n = streams::read_full(&mut rt.reader(), &mut entries)?;
+    export(rt, err, &entries[..n])
 }
 
-fn main() {
+fn main(rt: HostRuntime) -> io::Result<()> {
     let mut word = [0u8; 16];
-    let n = os::arg(1, &mut word);
+    // none where the argument is missing, or longer than the array
+    let n = rt.arg(1, &mut word).unwrap_or(0);
     let direction = &word[..n];
+    let err = rt.stderr();
     if same(direction, b"import") {
-        read_text();
-        return;
+        return read_text(&rt, &err);
     }
     if same(direction, b"export") {
-        read_entries();
-        return;
+        return read_entries(&rt, &err);
     }
-    io::write_all(2, b"usage: schedule_text import|export <INPUT >OUTPUT\n");
+    println!(err; "usage: schedule_text import|export <INPUT >OUTPUT")
 }

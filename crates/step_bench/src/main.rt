@@ -5,6 +5,7 @@ ghost use Rattle.std.specs.Prelude.{◌≤◌, length};
 
 use cells::{Machine, SetupAnswer};
 use runs::Report;
+use std::io;
 
 // The text is laid into a buffer that holds the longest one, a byte, a word or a number at a time. Each function answers where it ends.
 
@@ -148,17 +149,17 @@ fn answered(input: &[u8], text: &mut [u8]) -> usize
     }
 }
 
-fn print(text: &[u8], end: usize)
+fn print(rt: &impl Print, text: &[u8], end: usize) -> io::Result<()>
     requires { end ≤ length text.now }
 {
-    io::write_all(1, &text[..end]);
+    rt.write_all(&text[..end])
 }
 
 // The longest setup has 262 bytes, and a schedule of 65,531 is the shortest that is too long.
-fn main() {
+fn main(rt: HostRuntime) -> io::Result<()> {
     let mut input = [0u8; 65793];
-    let n = io::read_full(0, &mut input);
+    let n = streams::read_full(&mut rt.reader(), &mut input)?;
     let mut text = [0u8; 160000];
     let end = answered(&input[..n], &mut text);
-    print(&text, end);
+    print(&rt, &text, end)
 }

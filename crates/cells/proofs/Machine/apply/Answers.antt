@@ -17,7 +17,7 @@ returns c =
     let long : Long m = record { cells = search rules; values = search rules; counts = search rules; tasks = search (rules, length_mapped) } in
     let place : c.slot-j.result ≡ min (get_or s 2 0) 15 = c.slot-j.ensures ∙ ap (λ (b : ℕ). min b 15) c.byte_at.ensures in
     let known : Known m s (get_or m.tasks c.slot-j.result no_task) c.tasks_ok-inside.result =
-        record { task = ap (λ (k : ℕ). get_or m.tasks k no_task) place; ranges = c.tasks_ok-inside.ensures } in
+    record { task = ap (λ (k : ℕ). get_or m.tasks k no_task) place; ranges = c.tasks_ok-inside.ensures } in
     put_carried m long c.decided-d.result.effect _ c.decided-d.result.task (λ y does. place ∙ (named _ _ _ _ known _ c.decided-d.ensures y does).1) _ refl
     _ c.task_by-u.ensures _ c.answer_by-answer.ensures _ _ _ _
     (c.write_cells.ensures ∙ ap (λ (x : Write). cells_by (put_in 64) x m.cells) w)

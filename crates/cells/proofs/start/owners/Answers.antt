@@ -1,5 +1,5 @@
 -- `start::owners`: a task more owns its node.
-use Rattle.std.proofs.Common.{◌≡◌, ◌+◌, min, arith}
+use Rattle.std.proofs.Common.{◌≡◌, min, arith}
 use Rattle.tallies.proofs.Lists.{fill_none, fill_more}
 use Rattle.cells.proofs.start.owners.Goals as goal
 

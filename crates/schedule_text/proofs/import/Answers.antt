@@ -1,0 +1,6 @@
+-- `import`: what is written has room.
+use Rattle.texts.proofs.Going.{answered-fits, laid-length}
+use Rattle.schedule_text.proofs.import.Goals as goal
+
+pub tell-requires : goal.tell-requires
+tell-requires g c = rw (c.import-a.ensures.0, c.import-a.ensures.1, laid-length _ _) (answered-fits _ _)
