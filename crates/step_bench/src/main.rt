@@ -26,6 +26,7 @@ fn put_bytes(text: &mut [u8], at: usize, s: &[u8]) -> usize
     end
 }
 
+#[tactic(auto, using(wire::proofs::Laws::lengths, digits::proofs::Writing::end_within))]
 fn put_number(text: &mut [u8], at: usize, n: u32) -> usize
     requires { at ≤ length text.old }
     ensures { result ≤ length text.new }
@@ -137,6 +138,7 @@ fn refused(number: u8, text: &mut [u8]) -> usize
 }
 
 // The text for the bytes of a setup and a schedule.
+#[tactic(auto, using(cells::proofs::Setups::setup_uses))]
 fn answered(input: &[u8], text: &mut [u8]) -> usize
     ensures { result ≤ length text.new }
 {
