@@ -57,24 +57,24 @@ module _ (κs : Lfts 1) where
       (m.n, (m.p, (m.k, (m.free, (lent m.cells, (lent m.counts, tt))))))
 
   -- a test that leaves the pointers out
-  pub pointer_at_k-passes : Finds pointer_at_k true → ⊥
+  pub pointer_at_k_passes : Finds pointer_at_k true → ⊥
   unfolding computing
-  pointer_at_k-passes q = never cc
+  pointer_at_k_passes q = never cc
 
   -- a test that leaves the counts out
-  pub count_past_most-passes : Finds count_past_most true → ⊥
+  pub count_past_most_passes : Finds count_past_most true → ⊥
   unfolding computing
-  count_past_most-passes q = never cc
+  count_past_most_passes q = never cc
 
   -- a test that leaves the number of free nodes out
-  pub free_past_k-passes : Finds free_past_k true → ⊥
+  pub free_past_k_passes : Finds free_past_k true → ⊥
   unfolding computing
-  free_past_k-passes q = never cc
+  free_past_k_passes q = never cc
 
   -- a test that leaves the sizes out
-  pub pool_too_small-passes : Finds pool_too_small true → ⊥
+  pub pool_too_small_passes : Finds pool_too_small true → ⊥
   unfolding computing
-  pool_too_small-passes q = never cc
+  pool_too_small_passes q = never cc
 
   -- a test that stops every record
   pub sound_stopped : Finds fresh false → ⊥

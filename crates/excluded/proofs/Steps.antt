@@ -136,9 +136,9 @@ module _ (z : Effect) where
   s5_cursor_at_m q h = omega (arith, ap cursor_left q, h)
 
   -- an S5 that goes on past the last node, to K
-  pub s5-cursor_at_k : Allows s5-step.Post (at_last 11) (sees 1 2 0) z → cursor_left z ≡ 5 → ⊥
+  pub s5_cursor_at_k : Allows s5-step.Post (at_last 11) (sees 1 2 0) z → cursor_left z ≡ 5 → ⊥
   unfolding lowered_of recounted_of after
-  s5-cursor_at_k q h = omega (arith, ap cursor_left q, h)
+  s5_cursor_at_k q h = omega (arith, ap cursor_left q, h)
 
   -- an S5 that brings a count to 0 and leaves the number of free nodes
   pub s5_free_kept : Allows s5-step.Post (at 11) (sees 1 1 0) z → free_left z ≡ 2 → ⊥
@@ -151,9 +151,9 @@ module _ (z : Effect) where
   s6_sets_no_count q h = omega (arith, ap (count_left 4) q, h)
 
   -- an S6 that goes on past the last node, to K
-  pub s6-cursor_at_k : Allows s6-step.Post (at 12) (sees 1 0 1) z → cursor_left z ≡ 5 → ⊥
+  pub s6_cursor_at_k : Allows s6-step.Post (at 12) (sees 1 0 1) z → cursor_left z ≡ 5 → ⊥
   unfolding recounted_of after
-  s6-cursor_at_k q h = omega (arith, ap cursor_left q, h)
+  s6_cursor_at_k q h = omega (arith, ap cursor_left q, h)
 
   -- an S6 that takes a node in use
   pub s6_takes_busy : Allows s6-step.Post (at 12) (sees 1 0 1) z → own_left z ≡ 4 → ⊥

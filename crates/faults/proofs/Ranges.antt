@@ -21,9 +21,9 @@ use Rattle.faults.specs.Histories.{afterwards, answered}
 use Rattle.faults.specs.Schedules.{last_node}
 
 -- Entry 47 is task 1's S6 at node 4, which is busy. Before it the record is in range; after it the cursor is K, and the record is out of range.
-pub unwrapping-in_range : in_range (afterwards unwrapping fresh (take 46 last_node)) ≡ true
+pub unwrapping_in_range : in_range (afterwards unwrapping fresh (take 46 last_node)) ≡ true
 unfolding computing afterwards last_node
-unwrapping-in_range = refl
+unwrapping_in_range = refl
 
 pub unwrapping_leaves : ((get_or (afterwards unwrapping fresh last_node).tasks 1 no_task).cursor.0 ≡ 5) × (in_range (afterwards unwrapping fresh last_node) ≡ false)
 unfolding computing afterwards last_node

@@ -1,5 +1,5 @@
 -- The steps spent in loads: two sums over the tasks pay for them (Sums), whatever the entries and whichever cells are counted. Assumes nothing.
-use Prim.Native.Nat.{ℕ, ◌+◌, ◌-◌, ◌*◌, ◌≤◌, ◌<◌}
+use Prim.Native.Nat.{ℕ, ◌+◌, ◌≤◌, ◌<◌}
 use native.Mathlib.Omega.{arith}
 use native.Mathlib.Decide.{ℕ_discrete}
 use mathlib.Core.Path.{◌≡◌, refl, sym, ap, ◌∙◌}
@@ -20,13 +20,13 @@ use Rattle.wire.specs.Bytes.{word_at}
 use Rattle.cells.specs.Machine.{seen_of, cells_after}
 use Rattle.cells.specs.Apply.{apply_of}
 use Rattle.cells.specs.Setup.{fresh_of, setup_of}
-use Rattle.runs.specs.Counts.{kind_of, task_of, loads_at, steps_at, turned_at, swaps_at}
+use Rattle.runs.specs.Counts.{kind_of, task_of}
 use Rattle.laws.specs.Types.{Task, Call, Load, Store, Release, Validate, Moved, Nothing, Deed, Machine, Ready}
 use Rattle.laws.specs.Schedules.{applied, over}
 use Rattle.laws.proofs.Entries.{Asks, begun_by, stepped_by, by_entry}
 use Rattle.laws.proofs.Start.{by_setup}
 use Rattle.laws.proofs.Rows.{Moves, l1, l2, l3-passed, l3_turned, l4, l5, s1, s2-swapped, s2_missed, s3-took, s3_shared, s5, s6-took, s6_busy, s7, r1, v1-good, v1-gone, moves}
-use Rattle.laws.proofs.Sums.{left, stale, Pays, Settles, Swings, Paid, Bounded}
+use Rattle.laws.proofs.Sums.{left, stale, Pays, Settles, Swings, Paid, Bounded, TurnedBound, LoadBound}
 
 module _ (on : ℕ → Bool) where
   module _ (m : Machine) (e : List ℕ) (h : m.p ≤ length m.tasks) (hp : get_or e 2 0 < m.p) where
@@ -139,8 +139,8 @@ module _ (on : ℕ → Bool) where
     bounded = by_setup s used (λ z. Bounded on z es) (λ n p k z. fresh_bound n p k s z.tasks es) ready
 
     -- each swap that took turns back at most P - 1 checks
-    pub turned_bound : over (turned_at on) m es ≤ (m.p - 1) * over (swaps_at on) m es
+    pub turned_bound : TurnedBound on m es
     turned_bound = bounded.1
 
-    pub load_bound : over (steps_at on) m es ≤ 4 * over (loads_at on) m es + 4 * ((m.p - 1) * over (swaps_at on) m es)
+    pub load_bound : LoadBound on m es
     load_bound = omega (arith, bounded)

@@ -1,6 +1,6 @@
 -- At most N + 2P - 1 nodes are in use. Some task, the one that swapped last, has read no pointer that changed since: the node that it holds is
 -- one that a cell points at. Assumes nothing.
-use Prim.Native.Nat.{ℕ, ◌+◌, ◌*◌, ◌≤◌, ◌<◌}
+use Prim.Native.Nat.{ℕ, ◌+◌, ◌≤◌, ◌<◌}
 use native.Mathlib.Omega.{arith}
 use native.Mathlib.Decide.{ℕ_discrete}
 use mathlib.Core.Path.{◌≡◌, refl, sym}
@@ -165,5 +165,5 @@ module _ (m : Machine) (K : Kept m) (s : Some m) where
         one_of (live mine.phase) (holds mine.phase) b,
       ))
 
-pub busy_most : {m : Machine} → Reached m → used m + 1 ≤ m.n + 2 * m.p
+pub busy_most : {m : Machine} → Reached m → Spared m
 busy_most {m} r = one_less m (reached_kept r) (reached_some r)

@@ -61,8 +61,8 @@ module _ (m : Machine) (K : Kept m) (e : List ℕ) (f : Formed m e) (k : kind_of
       rw in_order (by_test (λ x. StoreAnswered m e (carried_of m (task_no e) x)) (leb m.n cell) _ _ (λ q. no_cell (leb-true _ _ q))
       (λ q. let h = leb-false m.n cell q in by_store m e (StoreAnswered m e) (not_now h) (unlinked h) (linked h)))
 
-  lost-at_once : cell < m.n → Unlinked t cell → apply_of m e ≡ lost_by m e
-  lost-at_once h u =
+  lost_at_once : cell < m.n → Unlinked t cell → apply_of m e ≡ lost_by m e
+  lost_at_once h u =
       rw (in_order, lt-leb m.n cell h)
       (by_store m e (λ a. a ≡ lost_by m e) (λ w. absurd (false≢true (sym w ∙ rests t cell u))) (λ v. refl) (λ h c. absurd (not_there t cell u h c)))
 
@@ -96,7 +96,7 @@ module _ (s : List ℕ) (used : ℕ) (ok : (setup_of s).answer ≡ Ready used) (
       × ((after_all first (past ++ events_of present e)).cells ≡ (after_all first past).cells)
   store-unlinked f l =
       let K = schedule-keeps es (setup_of s).machine (setup_kept s used ok) in
-      let leave = lost-at_once present K e f l.kind l.cell l.link in
+      let leave = lost_at_once present K e f l.kind l.cell l.link in
       let events = events_are present e leave l.kind in
       let out = sym ((matches s used ok es).sets (get_or e 4 0) (get_or e 2 0) l.cell l.task) ∙ no_part _ (get_or e 4 0) (task_of present e) l.link in
       (leave, events, out, gives_false (get_or e 2 0) (get_or e 4 0) (word_at e 6) (after_all first past).cells out, rw (events, after-append first past) (leaves (get_or e 2 0) (get_or e 4 0) (word_at e 6) (after_all first past) out))

@@ -58,3 +58,10 @@ module _ (on : ℕ → Bool) where
   abbrev pub Bounded : Machine → List (List ℕ) → Type 0
   Bounded m es = (over (steps_at on) m es ≤ 4 * (over (loads_at on) m es + over (turned_at on) m es))
       × (over (turned_at on) m es ≤ (m.p - 1) * over (swaps_at on) m es)
+
+  -- each swap that took turns back at most P - 1 checks
+  abbrev pub TurnedBound : Machine → List (List ℕ) → Type 0
+  TurnedBound m es = over (turned_at on) m es ≤ (m.p - 1) * over (swaps_at on) m es
+
+  abbrev pub LoadBound : Machine → List (List ℕ) → Type 0
+  LoadBound m es = over (steps_at on) m es ≤ 4 * over (loads_at on) m es + 4 * ((m.p - 1) * over (swaps_at on) m es)

@@ -81,6 +81,7 @@ fn load_begun(kind: u8) -> u32
 }
 
 // One entry more was accepted: its kind, and its task's phase before and after it.
+#[tactic(auto, using(crate::proofs::Laws::step_le, crate::proofs::Laws::went_le), unfolding(crate::specs::OneEntry::counted_by))]
 fn counted(r: Report, kind: u8, from: u8, to: u8) -> Report
     requires { Few 6553 r }
     ensures { result ≡ counted_by r kind from to }

@@ -1,14 +1,12 @@
 -- `run_input`: a refused setup leaves both buffers; an accepted one's tables are lent to the run of what follows it.
 use Prim.Native.Nat.{ℕ}
-use mathlib.Core.Path.{◌≡◌, sym, ap, ◌∙◌, subst}
+use mathlib.Core.Path.{◌≡◌, sym, ap, ◌∙◌}
 use mathlib.Core.List.{List}
-use Rattle.tallies.proofs.Lists.{part}
-use Rattle.cells.specs.Machine.{Long}
 use Rattle.cells.specs.Setup.{setup_of, laid_of}
 use Rattle.cells.specs.declared.SetUp.{SetUp}
 use Rattle.cells.specs.declared.start.Laid.{Laid}
-use Rattle.cells.proofs.Setups.{setup-long, setup_uses}
-use Rattle.runs.specs.Types.{Ran, Ready, Reported}
+use Rattle.cells.proofs.Setups.{setup_uses}
+use Rattle.runs.specs.Types.{Ready}
 use Rattle.runs.specs.Lent.{made_of}
 use Rattle.runs.proofs.run_input.Goals as goal
 

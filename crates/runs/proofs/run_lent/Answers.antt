@@ -1,5 +1,5 @@
 -- `run_lent`: the three refusals before any entry is tried, each where the ones before it did not apply; then the entries.
-use Prim.Native.Nat.{◌*◌, ◌<◌, ◌≤◌, min}
+use Prim.Native.Nat.{◌*◌, ◌<◌, min}
 use mathlib.Core.Path.{◌≡◌, sym, ap, ◌∙◌}
 use mathlib.Core.Bool.{Bool, true, false, ◌&&◌}
 use lib.ListN.{length}

@@ -1,13 +1,11 @@
 -- `run_tables`: what is left of the run gives the whole.
-use Prim.Native.Nat.{ℕ, ◌+◌, ◌*◌, ◌-◌, ◌≤◌, ◌<◌, min}
+use Prim.Native.Nat.{ℕ, ◌+◌, ◌*◌, ◌-◌, min}
 use mathlib.Core.Path.{◌≡◌, refl, sym, ap, ◌∙◌}
 use mathlib.Core.List.{List}
 use native.Mathlib.Omega.{arith}
-use lib.ListN.{length, get_or, take, drop}
+use lib.ListN.{get_or, take, drop}
 use Rattle.wire.specs.Bytes.{reply_of, overlaid}
-use Rattle.entries.specs.Schedule.{entries_in}
 use Rattle.tasks.specs.Records.{no_task}
-use Rattle.runs.specs.Types.{Machine}
 use Rattle.runs.specs.Counts.{accepted}
 use Rattle.runs.specs.Lent.{made_of}
 use Rattle.runs.specs.Run.{refused_at}
