@@ -177,7 +177,7 @@ module _ (κs : Lfts 3) (z : Ran) (out notes : List ℕ) where
   unfolding running
   swap_uncounted q h = omega (arith, ap (λ r. r.report.swaps) q.0, h)
 
-  -- a count of turned_back checks that never goes up
+  -- a count of turned-back checks that never goes up
   pub turned_back_uncounted : Runs fresh (bytes (case11 ++ gos 2 0)) 104 → z.report.turned_back ≡ 0 → ⊥
   unfolding running
   turned_back_uncounted q h = omega (arith, ap (λ r. r.report.turned_back) q.0, h)

@@ -2,7 +2,6 @@
 #![tactic(auto)]
 
 ghost use Rattle.std.specs.Prelude.{◌≡◌, length};
-ghost use Rattle.runs.specs.Run.{six_of};
 ghost use Rattle.runs.specs.Input.{replies_after, free_nodes_after};
 ghost use Rattle.texts.specs.Made.{answered, laid, text_number};
 ghost use Rattle.texts.specs.Text.{imported, exported};

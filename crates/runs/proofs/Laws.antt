@@ -23,7 +23,7 @@ pub counted_by_lem : (m : Machine) (e : List ℕ) (r : Report) → accepted (app
 unfolding counted_by load_step went_of
 counted_by_lem m e r h = simp (h, and-true)
 
--- an entry is at most one load begun, one load step, one turned_back check, one swap
+-- an entry is at most one load begun, one load step, one turned-back check, one swap
 pub begun_le : (kind : ℕ) → load_begun kind ≤ 1
 begun_le kind = bit_le (eqb kind 1)
 

@@ -29,7 +29,7 @@ loads_at on m e = bit (counts on 1 m e)
 abbrev pub steps_at : (ℕ → Bool) → Machine → List ℕ → ℕ
 steps_at on m e = bit (counts on 0 m e && within 1 5 (task_of m e).phase)
 
--- turned_back checks: phase 3 to 5
+-- turned-back checks: phase 3 to 5
 abbrev pub turned_at : (ℕ → Bool) → Machine → List ℕ → ℕ
 turned_at on m e = bit (counts on 0 m e && eqb (task_of m e).phase 3 && eqb (task_of (apply_of m e).machine e).phase 5)
 
