@@ -1,4 +1,4 @@
--- Any two results that an exported function's contract allows are equal, and so is what a lent place holds when the function returns. Assumes nothing.
+-- Any two results that a function's contract allows are equal, and so is what a lent place holds when the function returns. Assumes nothing.
 use mathlib.Core.Path.{refl, sym, ◌∙◌}
 use Rattle.contracts.specs.One.{One}
 use Rattle.kemilunda.proofs.kemilunda_setup.Kinds as setup·k

@@ -115,7 +115,7 @@ module _ (m : Machine) (cs vs ns : List ℕ) (ts : List Task) (C : Agree 0 m.n m
   m' = record { n = m.n; p = m.p; k = m.k; free = m.free; cells = cs; values = vs; counts = ns; tasks = ts }
 
   alike : Alike m m'
-  alike = record { same_n = refl; same_p = refl; same_k = refl; same-free = refl; cells = C; values = W; counts = N; tasks = T }
+  alike = record { same_n = refl; same_p = refl; same_k = refl; same_free = refl; cells = C; values = W; counts = N; tasks = T }
 
   written_alike : (q : TaskNo) (t : Task) (w : Write) → Alike (written m q t w) (written m' q t w)
   written_alike q t w =
@@ -123,7 +123,7 @@ module _ (m : Machine) (cs vs ns : List ℕ) (ts : List Task) (C : Agree 0 m.n m
         same_n = refl;
         same_p = refl;
         same_k = refl;
-        same-free = refl;
+        same_free = refl;
         cells = cells w;
         values = values w;
         counts = counts w;
@@ -207,5 +207,5 @@ module _ (m : Machine) (cs vs ns : List ℕ) (ts : List Task) (C : Agree 0 m.n m
 pub entry_alike : (m m' : Machine) → Alike m m' → (e : List ℕ) → Alike-after (apply_of m e) (apply_of m' e)
 entry_alike m m' L e =
     subst (λ (x : Machine). Alike-after (apply_of m e) (apply_of x e))
-    (λ i. record { n = L.same_n i; p = L.same_p i; k = L.same_k i; free = L.same-free i; cells = m'.cells; values = m'.values; counts = m'.counts; tasks = m'.tasks })
+    (λ i. record { n = L.same_n i; p = L.same_p i; k = L.same_k i; free = L.same_free i; cells = m'.cells; values = m'.values; counts = m'.counts; tasks = m'.tasks })
     (tables_alike m m'.cells m'.values m'.counts m'.tasks L.cells L.values L.counts L.tasks e)

@@ -25,7 +25,7 @@ use Rattle.laws.specs.Types.{Task, Call, Load, Store, Release, Validate, Moved, 
 use Rattle.laws.specs.Schedules.{applied, over}
 use Rattle.laws.proofs.Entries.{Asks, begun_by, stepped_by, by_entry}
 use Rattle.laws.proofs.Start.{by_setup}
-use Rattle.laws.proofs.Rows.{Moves, l1, l2, l3-passed, l3_turned, l4, l5, s1, s2-swapped, s2_missed, s3-took, s3_shared, s5, s6-took, s6_busy, s7, r1, v1-good, v1-gone, moves}
+use Rattle.laws.proofs.Rows.{Moves, l1, l2, l3_passed, l3_turned, l4, l5, s1, s2_swapped, s2_missed, s3_took, s3_shared, s5, s6_took, s6_busy, s7, r1, v1_good, v1_gone, moves}
 use Rattle.laws.proofs.Sums.{left, stale, Pays, Settles, Swings, Paid, Bounded, TurnedBound, LoadBound}
 
 module _ (on : ℕ → Bool) where
@@ -73,22 +73,22 @@ module _ (on : ℕ → Bool) where
     row : (f : ℕ) (d : Deed) → kind_of e ≡ 0 → t.phase ≡ f → Moves t (seen_of m t) f d → Pays on m e (stepped_by m e d)
     row f d k q l1 = quiet 0 f d k q refl (rw (eq-eqb (get_or m.cells t.cell.0 0) (get_or m.cells t.cell.0 0) refl) (omega arith))
     row f d k q (l2 c) = quiet 0 f d k q refl (omega arith)
-    row f d k q (l3-passed c) = quiet 0 f d k q refl (omega arith)
+    row f d k q (l3_passed c) = quiet 0 f d k q refl (omega arith)
     row f d k q (l3_turned c) = quiet 0 f d k q refl (rw (ne_eqb _ _ (λ w. c (sym w))) (omega arith))
     row f d k q l4 = quiet 0 f d k q refl (omega arith)
     row f d k q (l5 c) = quiet 0 f d k q refl (omega arith)
     row f d k q s1 = quiet 0 f d k q refl (omega arith)
-    row f d k q (s2-swapped c) = simp (bit_and, k, q, now (at 9)) (omega (arith, moved (left on) 8 (at 9) q), omega (arith, swing (on t.cell.0) refl q))
+    row f d k q (s2_swapped c) = simp (bit_and, k, q, now (at 9)) (omega (arith, moved (left on) 8 (at 9) q), omega (arith, swing (on t.cell.0) refl q))
     row f d k q (s2_missed c) = quiet 0 f d k q refl (omega arith)
-    row f d k q (s3-took c) = quiet 0 f d k q refl (omega arith)
+    row f d k q (s3_took c) = quiet 0 f d k q refl (omega arith)
     row f d k q (s3_shared h c) = quiet 0 f d k q refl (omega arith)
     row f d k q (s5 c) = quiet 0 f d k q refl (omega arith)
-    row f d k q (s6-took c) = quiet 0 f d k q refl (omega arith)
+    row f d k q (s6_took c) = quiet 0 f d k q refl (omega arith)
     row f d k q (s6_busy c) = quiet 0 f d k q refl (omega arith)
     row f d k q (s7 c) = quiet 0 f d k q refl (omega arith)
     row f d k q (r1 c) = quiet 0 f d k q refl (omega arith)
-    row f d k q (v1-good c) = quiet 0 f d k q refl (omega arith)
-    row f d k q (v1-gone c) = quiet 0 f d k q refl (omega arith)
+    row f d k q (v1_good c) = quiet 0 f d k q refl (omega arith)
+    row f d k q (v1_gone c) = quiet 0 f d k q refl (omega arith)
 
   -- every entry pays, and leaves P and the table's length
   entry_pays : (m : Machine) (e : List ℕ) → m.p ≤ length m.tasks → Pays on m e (apply_of m e)

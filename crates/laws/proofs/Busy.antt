@@ -30,7 +30,7 @@ use Rattle.laws.specs.Kept.{InRange, Kept}
 use Rattle.laws.specs.Schedules.{applied, tried, Reached, set_up, entered, ran}
 use Rattle.laws.proofs.Phases.{phase-gives}
 use Rattle.laws.proofs.Entries.{task_no, by_entry}
-use Rattle.laws.proofs.Rows.{Moves, l1, l2, l3-passed, l3_turned, l4, l5, s1, s2-swapped, s2_missed, s3-took, s3_shared, s5, s6-took, s6_busy, s7, r1, v1-good, v1-gone, moves}
+use Rattle.laws.proofs.Rows.{Moves, l1, l2, l3_passed, l3_turned, l4, l5, s1, s2_swapped, s2_missed, s3_took, s3_shared, s5, s6_took, s6_busy, s7, r1, v1_good, v1_gone, moves}
 use Rattle.laws.proofs.Keeps.{task, in_list, put_here, in_cells}
 use Rattle.laws.proofs.Table.{entry-keeps}
 use Rattle.laws.proofs.Start.{by_setup}
@@ -63,22 +63,22 @@ module _ (m : Machine) (K : Kept m) (e : List ℕ) (hp : get_or e 2 0 < m.p) whe
   row : (f : ℕ) (d : Deed) → t.phase ≡ f → Moves t (seen_of m t) f d → Some m → Some (written m (task_no e) d.task d.write)
   row f d q l1 = carried d.task d.write refl (λ h k. refl)
   row f d q (l2 c) = carried d.task d.write refl (λ h k. h (rw q tt))
-  row f d q (l3-passed c) = carried d.task d.write refl (λ h k. h (rw q tt))
+  row f d q (l3_passed c) = carried d.task d.write refl (λ h k. h (rw q tt))
   row f d q (l3_turned c) = carried d.task d.write refl (λ h k. absurd (c (h (rw q tt))))
   row f d q l4 = carried d.task d.write refl (λ h k. h (rw q tt))
   row f d q (l5 c) = carried d.task d.write refl (λ h k. absurd k)
   row f d q s1 = carried d.task d.write refl (λ h k. h (rw q tt))
-  row f d q (s2-swapped c) = λ s. (get_or e 2 0, hp, rw (put_here m K d.task hp) (λ k. absurd k))
+  row f d q (s2_swapped c) = λ s. (get_or e 2 0, hp, rw (put_here m K d.task hp) (λ k. absurd k))
   row f d q (s2_missed c) = carried d.task d.write refl (λ h k. absurd (c (h (rw q tt))))
-  row f d q (s3-took c) = carried d.task d.write refl (λ h k. absurd k)
+  row f d q (s3_took c) = carried d.task d.write refl (λ h k. absurd k)
   row f d q (s3_shared l c) = carried d.task d.write refl (λ h k. absurd k)
   row f d q (s5 c) = carried d.task d.write refl (λ h k. absurd k)
-  row f d q (s6-took c) = carried d.task d.write refl (λ h k. absurd k)
+  row f d q (s6_took c) = carried d.task d.write refl (λ h k. absurd k)
   row f d q (s6_busy c) = carried d.task d.write refl (λ h k. absurd k)
   row f d q (s7 c) = carried d.task d.write refl (λ h k. absurd k)
   row f d q (r1 c) = carried d.task d.write refl (λ h k. absurd k)
-  row f d q (v1-good c) = carried d.task d.write refl (λ h k. h (rw q tt))
-  row f d q (v1-gone c) = carried d.task d.write refl (λ h k. h (rw q tt))
+  row f d q (v1_good c) = carried d.task d.write refl (λ h k. h (rw q tt))
+  row f d q (v1_gone c) = carried d.task d.write refl (λ h k. h (rw q tt))
 
 entry_some : (m : Machine) (e : List ℕ) → Kept m → Some m → Some (apply_of m e).machine
 entry_some m e K =

@@ -31,6 +31,6 @@ module _ {m : Machine} (r : Reached m) where
   count_is i h =
       let K = reached_kept r in
       let few : m.p ≤ 16 = K.sound.tasks in
-      let long : m.p ≤ length m.tasks = omega (arith, K.sound.tasks-length) in
+      let long : m.p ≤ length m.tasks = omega (arith, K.sound.tasks_length) in
       let below : i ≤ 127 = omega (arith, K.sound.nodes) in
       rw (held_is m.tasks m.p i few long below) (omega (arith, K.counted i h, tally-add (owns i) (swapped i) m.p m.tasks))

@@ -52,7 +52,7 @@ module _ (m : Machine) (K : Kept m) where
         let was = rw e at (total_part (λ i. bit (eqb (get_or m.counts i 0) 0)) m.k v.0 h) in
         let most = shared_out (set m.counts v.0 d) m.k in
         rw (
-          le-ltb (m.free + bit (eqb d 0)) (bit (eqb c 0)) (omega (arith, was, K.free-counted)),
+          le-ltb (m.free + bit (eqb d 0)) (bit (eqb c 0)) (omega (arith, was, K.free_counted)),
           le-ltb m.k (free_after m.free c d) (omega (arith, after, most)),
         )
 

@@ -237,8 +237,8 @@ module _ (s : List ℕ) (bytes : ℕ) (ok : (setup_of s).answer ≡ Ready bytes)
   m = (setup_of s).machine
 
   -- at most 4 for each load begun and 4 for each other task and swap, over all cells (Bound)
-  pub load-steps : (es : List (List ℕ)) → over (steps_at anywhere) m es ≤ 4 * over (loads_at anywhere) m es + 4 * ((m.p - 1) * over (swaps_at anywhere) m es)
-  load-steps = load_bound anywhere s bytes ok
+  pub load_steps : (es : List (List ℕ)) → over (steps_at anywhere) m es ≤ 4 * over (loads_at anywhere) m es + 4 * ((m.p - 1) * over (swaps_at anywhere) m es)
+  load_steps = load_bound anywhere s bytes ok
 
   -- and so for each cell alone, by the loads and swaps of that cell
   pub load_steps_of : (x : ℕ) (es : List (List ℕ)) → over (steps_at (alone x)) m es ≤ 4 * over (loads_at (alone x)) m es + 4 * ((m.p - 1) * over (swaps_at (alone x)) m es)
@@ -327,7 +327,7 @@ used_limit_met = Sharp.busy_met
 -- is 0; and so is the answer to the question, which looks at no count (Free)
 module _ {m : Machine} (r : Reached m) where
   pub free_kept : m.free ≡ free m
-  free_kept = (reached_kept r).free-counted
+  free_kept = (reached_kept r).free_counted
 
   pub free-told : free_nodes m ≡ Free (free m)
   free-told = told_free m (reached_kept r)

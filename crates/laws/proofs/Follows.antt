@@ -28,7 +28,7 @@ use Rattle.laws.specs.Kept.{Ready, InRange, Kept}
 use Rattle.laws.specs.Acts.{in_set, linked_at, standing, Matches, acts_from, ending, each, at_once, events_in, events_of}
 use Rattle.laws.proofs.Phases.{phase-gives}
 use Rattle.laws.proofs.Entries.{task_no, Unlinked, idle, elsewhere, by_entry}
-use Rattle.laws.proofs.Rows.{Moves, l1, l2, l3-passed, l3_turned, l4, l5, s1, s2-swapped, s2_missed, s3-took, s3_shared, s5, s6-took, s6_busy, s7, r1, v1-good, v1-gone, moves}
+use Rattle.laws.proofs.Rows.{Moves, l1, l2, l3_passed, l3_turned, l4, l5, s1, s2_swapped, s2_missed, s3_took, s3_shared, s5, s6_took, s6_busy, s7, r1, v1_good, v1_gone, moves}
 use Rattle.laws.proofs.Keeps.{task, in_list, put_here, in_cells, part}
 
 -- only a load that has passed its check looks at a value
@@ -233,22 +233,22 @@ module _ (m : Machine) (K : Kept m) (p : TaskNo) (hp : p.0 < m.p) (a : State) (M
   row_fits : {f : ℕ} {d : Deed} → Moves t (seen_of m t) f d → t ≡ at f → Fits f d
   row_fits l1 e = (tt, stutter 1 _ _ e (λ y. refl) refl)
   row_fits (l2 h) e = (tt, stutter 2 (at 3) _ e (λ y. refl) refl)
-  row_fits (l3-passed q) e = acts_now (load x) _ (stand 3 e) (load-acts e q)
+  row_fits (l3_passed q) e = acts_now (load x) _ (stand 3 e) (load-acts e q)
   row_fits (l3_turned q) e = (tt, stutter 3 (at 5) _ e (λ y. refl) refl)
   row_fits l4 e = ((stand 4 e, tt), stands 4 (at 6) _ quiet e (λ y. refl) refl)
   row_fits (l5 h) e = (tt, stutter 5 (at 1) _ e (λ y. refl) refl)
   row_fits s1 e = (tt, s1-fits e)
-  row_fits (s2-swapped q) e = acts_now (store x t.value) _ (stand 8 e) (swap_acts e q)
+  row_fits (s2_swapped q) e = acts_now (store x t.value) _ (stand 8 e) (swap_acts e q)
   row_fits (s2_missed q) e = acts_now (store x t.value) _ (stand 8 e) (miss_acts e q)
-  row_fits (s3-took q) e = ((stand 9 e, tt), stands 9 _ _ quiet e (λ y. refl) refl)
+  row_fits (s3_took q) e = ((stand 9 e, tt), stands 9 _ _ quiet e (λ y. refl) refl)
   row_fits (s3_shared h q) e = (tt, stutter 9 (at 11) _ e (λ y. refl) refl)
   row_fits (s5 h) e = (tt, stutter 11 _ _ e (λ y. refl) refl)
-  row_fits (s6-took q) e = ((stand 12 e, tt), stands 12 _ _ quiet e (λ y. refl) refl)
+  row_fits (s6_took q) e = ((stand 12 e, tt), stands 12 _ _ quiet e (λ y. refl) refl)
   row_fits (s6_busy q) e = (tt, stutter 12 _ _ e (λ y. refl) refl)
   row_fits (s7 h) e = ((stand 13 e, tt), stands 13 (at 0) _ quiet e (λ y. refl) refl)
   row_fits (r1 h) e = release-acts e _
-  row_fits (v1-good q) e = validate-acts e true (eq-eqb (node x) t.held.0 (sym q))
-  row_fits (v1-gone q) e = validate-acts e false (ne_eqb (node x) t.held.0 (λ w. q (sym w)))
+  row_fits (v1_good q) e = validate-acts e true (eq-eqb (node x) t.held.0 (sym q))
+  row_fits (v1_gone q) e = validate-acts e false (ne_eqb (node x) t.held.0 (λ w. q (sym w)))
 
   pub step_fits : (d : Deed) → effect_of t (seen_of m t) ≡ Does d → Fits t.phase d
   step_fits d q = row_fits (moves t (seen_of m t) d q) refl

@@ -24,7 +24,7 @@ use Rattle.laws.proofs.Ranges.{pool_ok_lem, in_range_lem}
 
 pub told_free : (m : Machine) → Kept m → free_nodes m ≡ Free (free m)
 unfolding free_of
-told_free m K = rw (pool_ok_lem m K) (ap Free K.free-counted)
+told_free m K = rw (pool_ok_lem m K) (ap Free K.free_counted)
 
 -- one answer for each entry that is tried, and it is the full count after that entry
 pub notes_length : (es : List (List ℕ)) (m : Machine) → length (notes_from m es) ≡ length (tried m es)

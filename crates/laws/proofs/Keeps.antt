@@ -44,20 +44,20 @@ KeptIfSound m p t w = Sound (written m p t w) → Kept (written m p t w)
 
 module _ (m : Machine) (K : Kept m) where
   pub in_list : {q : ℕ} → q < m.p → q < length m.tasks
-  in_list h = omega (arith, K.sound.tasks-length, K.sound.tasks)
+  in_list h = omega (arith, K.sound.tasks_length, K.sound.tasks)
 
   -- task q's record, where t has just been put there
   pub put_here : {q : ℕ} (t : Task) → q < m.p → get_or (set m.tasks q t) q no_task ≡ t
   put_here {q} t h = get_or-set_same m.tasks q t no_task (in_list h)
 
   pub in_counts : {i : ℕ} → i < m.k → i < length m.counts
-  in_counts h = omega (arith, K.sound.counts-length, K.sound.nodes)
+  in_counts h = omega (arith, K.sound.counts_length, K.sound.nodes)
 
   pub in_values : {i : ℕ} → i < m.k → i < length m.values
   in_values h = omega (arith, K.sound.values_length, K.sound.nodes)
 
   pub in_cells : {x : ℕ} → x < m.n → x < length m.cells
-  in_cells h = omega (arith, K.sound.cells-length, K.sound.cells)
+  in_cells h = omega (arith, K.sound.cells_length, K.sound.cells)
 
   -- a node that a cell points at is nobody's own
   pub pointed : (x i : ℕ) → x < m.n → get_or m.cells x 0 ≡ i → (y : ℕ) → y < m.p → T (live (task m y).phase) → (task m y).own.0 ≢ i
@@ -76,10 +76,10 @@ module _ (m : Machine) (K : Kept m) where
   pub freed : (v d : ℕ) → v < m.k → free_in (set m.counts v d) m.k + bit (eqb (get_or m.counts v 0) 0) ≡ m.free + bit (eqb d 0)
   freed v d h =
       let zero_one : ℕ → ℕ = λ c. bit (eqb c 0) in
-      let long : m.k ≤ length m.counts = omega (arith, K.sound.counts-length, K.sound.nodes) in
+      let long : m.k ≤ length m.counts = omega (arith, K.sound.counts_length, K.sound.nodes) in
       omega (
         arith,
-        K.free-counted,
+        K.free_counted,
         tally_places zero_one m.k m.counts 0 long,
         tally_places zero_one m.k (set m.counts v d) 0 (omega (arith, length-set m.counts v d)),
         tally-set zero_one m.k m.counts v d 0 h (in_counts h),
@@ -87,10 +87,10 @@ module _ (m : Machine) (K : Kept m) where
 
   -- the kept number is the full count after a proper write
   tells : (w : Write) → Proper m w → free_by w m.free ≡ free_in (counts_after m w) m.k
-  tells Nothing h = K.free-counted
-  tells (Point x v) h = K.free-counted
+  tells Nothing h = K.free_counted
+  tells (Point x v) h = K.free_counted
   tells (Count v d f) h = h.1 ∙ omega (arith, freed v.0 d h.0)
-  tells (Value v y) h = K.free-counted
+  tells (Value v y) h = K.free_counted
 
   -- two tasks never own one node
   pub own_apart : (x y : ℕ) → x < m.p → y < m.p → x ≢ y → T (live (task m x).phase) → T (live (task m y).phase) → (task m x).own.0 ≢ (task m y).own.0
@@ -156,7 +156,7 @@ module _ (m : Machine) (K : Kept m) (p : TaskNo) (hp : p.0 < m.p) (t : Task) (e 
   pub stepped : (t' : Task) (w : Write) → Leaves t' w → Proper m w → KeptIfSound m p t' w
   stepped t' w l h s = record {
     sound = s;
-    free-counted = tells m K w h;
+    free_counted = tells m K w h;
     counted = λ i h. omega (arith, K.counted i h, l.balance i h, moved (claims i) t', moved (keeps i) t');
     sole = λ i h. omega (arith, l.sole i h, moved (claims i) t');
     held = l.held;

@@ -30,10 +30,10 @@ sound_of : (m : Machine) → Long m → in_range m ≡ true → Sound m
 sound_of m l r =
     let s = sizes m l r in
     record {
-      cells-length = l.cells;
+      cells_length = l.cells;
       values_length = l.values;
-      counts-length = l.counts;
-      tasks-length = l.tasks;
+      counts_length = l.counts;
+      tasks_length = l.tasks;
       a_cell = s.0;
       cells = s.1;
       a_task = s.2;
@@ -59,7 +59,7 @@ module _ (m : Machine) (K : Kept m) where
 
   -- no more free nodes than K
   free_most : m.free ≤ m.k
-  free_most = omega (arith, K.free-counted, shared_out m.counts m.k)
+  free_most = omega (arith, K.free_counted, shared_out m.counts m.k)
 
   pub pool_ok_lem : pool_ok m.n m.p m.k m.free ≡ true
   unfolding sizes_ok
@@ -89,4 +89,4 @@ module _ (m : Machine) (K : Kept m) where
   entry-sound e = sound_of (apply_of m e).machine (keeps_lengths m long in_range_lem e) (keeps_ranges m long in_range_lem e)
     where
       long : Long m
-      long = let k = K.sound in record { cells = k.cells-length; values = k.values_length; counts = k.counts-length; tasks = k.tasks-length }
+      long = let k = K.sound in record { cells = k.cells_length; values = k.values_length; counts = k.counts_length; tasks = k.tasks_length }

@@ -7,7 +7,7 @@ use mathlib.Core.Bool.{Bool, true, false, ◌&&◌}
 use mathlib.Core.List.{List}
 use lib.ListN.{get_or}
 use lib.Dec.{T, eqb, ltb}
-use borrow.Author.Tests.{ne_eqb, lt-ltb}
+use borrow.Author.Tests.{eqb-true, lt-ltb}
 use Rattle.tallies.specs.Tally.{bit, tally, total}
 use Rattle.tallies.proofs.Tally.{tally-at, tally_mono, tally-add, tally_most, bit_eq, bit_ne, bit_le, T→true, total-tally, total-add, total_mono, total_one, total-split, total-zero}
 use Rattle.tallies.proofs.Bounds.{tally_short}
@@ -25,7 +25,11 @@ Spared m = used m + 1 ≤ m.n + 2 * m.p
 
 -- a node in phase 9's hands is a node that the task holds
 swapped-keeps : (i : ℕ) (t : Task) → swapped i t ≤ keeps i t
-swapped-keeps i t = elim (ℕ_discrete t.phase 9) [ yes q ↦ rw q (omega arith) | no q ↦ rw (ne_eqb t.phase 9 q) (omega arith) ]
+swapped-keeps i t = nine (eqb t.phase 9) (eqb-true t.phase 9)
+  where
+    nine : (b : Bool) → (b ≡ true → t.phase ≡ 9) → bit (b && eqb t.held.0 i) ≤ keeps i t
+    nine true h = rw (h refl) (omega arith)
+    nine false h = omega arith
 
 -- the nodes that a task's record takes up: its own, and its m
 unfoldable pub weighs : ℕ → Task → ℕ

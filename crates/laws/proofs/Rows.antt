@@ -13,7 +13,7 @@ use Rattle.tasks.specs.Records.{onward, owning, probing}
 use Rattle.steps.specs.Table.{after, free_after, recounted_of, raised_of, lowered_of, counting, leaving, rows, no_phase, effect_of}
 use Rattle.steps.proofs.Rows.{effect_no_phase}
 use Rattle.laws.specs.Types.{Reply, Moved, Took, Lost, Released, NodeNo, Task, Seen, Count, Counted, To, Broken, Deed, Effect, Does, Refuses}
-pub use Rattle.laws.specs.Moves.{deed, raised, lowered, Moves, l1, l2, l3-passed, l3_turned, l4, l5, s1, s2-swapped, s2_missed, s3-took, s3_shared, s5, s6-took, s6_busy, s7, r1, v1-good, v1-gone}
+pub use Rattle.laws.specs.Moves.{deed, raised, lowered, Moves, l1, l2, l3_passed, l3_turned, l4, l5, s1, s2_swapped, s2_missed, s3_took, s3_shared, s5, s6_took, s6_busy, s7, r1, v1_good, v1_gone}
 use Rattle.laws.proofs.Phases.{by_phase}
 
 -- a step that counts is refused, or the count and the number of free nodes are as they must be
@@ -44,7 +44,7 @@ module _ (t : Task) (s : Seen) where
   leaving_reads : Reads 9 (leaving (lowered_of s t.held s.held_count) t)
   leaving_reads =
       by_lowered (λ c. Reads 9 (leaving c t)) s t.held s.held_count tt
-      (λ h. by_test (Reads 9) (eqb (s.held_count - 1) 1) _ _ (λ q. s3-took (eqb-true _ _ q)) (λ q. s3_shared h (eqb-false _ _ q)))
+      (λ h. by_test (Reads 9) (eqb (s.held_count - 1) 1) _ _ (λ q. s3_took (eqb-true _ _ q)) (λ q. s3_shared h (eqb-false _ _ q)))
 
   reads : Reads t.phase (effect_of t s)
   unfolding effect_of rows
@@ -55,14 +55,14 @@ module _ (t : Task) (s : Seen) where
           | yes e ↦ rw (effect_no_phase t s (inl e)) tt
           | no ne ↦ by_phase (λ n. Reads n (get_or rows n no_phase t s))
               tt l1 (by_raised (λ c. Reads 2 (counting c (onward t 3) Moved)) s t.held s.held_count tt l2)
-              (by_test (Reads 3) (eqb t.held.0 s.here.0) _ _ (λ q. l3-passed (eqb-true _ _ q)) (λ q. l3_turned (eqb-false _ _ q)))
+              (by_test (Reads 3) (eqb t.held.0 s.here.0) _ _ (λ q. l3_passed (eqb-true _ _ q)) (λ q. l3_turned (eqb-false _ _ q)))
               l4 (lowering_reads 5 (onward t 1) Moved l5) tt s1
-              (by_test (Reads 8) (eqb t.held.0 s.here.0) _ _ (λ q. s2-swapped (eqb-true _ _ q)) (λ q. s2_missed (eqb-false _ _ q)))
+              (by_test (Reads 8) (eqb t.held.0 s.here.0) _ _ (λ q. s2_swapped (eqb-true _ _ q)) (λ q. s2_missed (eqb-false _ _ q)))
               leaving_reads
               (lowering_reads 11 (onward (probing t (after s.nodes t.held)) 12) Moved s5)
-              (by_test (Reads 12) (eqb s.cursor_count 0) _ _ (λ q. by_recounted (λ c. Reads 12 (counting c (onward (owning t t.cursor) 0) Took)) s t.cursor 0 1 tt (s6-took (eqb-true _ _ q))) (λ q. s6_busy (eqb-false _ _ q)))
+              (by_test (Reads 12) (eqb s.cursor_count 0) _ _ (λ q. by_recounted (λ c. Reads 12 (counting c (onward (owning t t.cursor) 0) Took)) s t.cursor 0 1 tt (s6_took (eqb-true _ _ q))) (λ q. s6_busy (eqb-false _ _ q)))
               (lowering_reads 13 (onward t 0) Lost s7) (lowering_reads 14 (onward t 0) Released r1)
-              (by_test (Reads 15) (eqb t.held.0 s.here.0) _ _ (λ q. v1-good (eqb-true _ _ q)) (λ q. v1-gone (eqb-false _ _ q)))
+              (by_test (Reads 15) (eqb t.held.0 s.here.0) _ _ (λ q. v1_good (eqb-true _ _ q)) (λ q. v1_gone (eqb-false _ _ q)))
               t.phase (rw (le-leb t.phase 15 h, ne_eqb t.phase 10 ne) tt)
         ]
       ]

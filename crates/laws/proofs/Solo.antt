@@ -32,7 +32,7 @@ use Rattle.laws.proofs.Ranges.{in_range_lem}
 use Rattle.laws.proofs.Table.{entry-keeps}
 use Rattle.laws.proofs.Damage.{Steady, steady}
 use Rattle.laws.proofs.Room.{used_less, can_lower}
-use Rattle.laws.proofs.Rows.{Moves, l1, l2, l3-passed, l3_turned, l4, l5, s1, s2-swapped, s2_missed, s3-took, s3_shared, s5, s6-took, s6_busy, s7, r1, v1-good, v1-gone, moves}
+use Rattle.laws.proofs.Rows.{Moves, l1, l2, l3_passed, l3_turned, l4, l5, s1, s2_swapped, s2_missed, s3_took, s3_shared, s5, s6_took, s6_busy, s7, r1, v1_good, v1_gone, moves}
 
 -- a call is running
 abbrev busy : ℕ → Bool
@@ -131,14 +131,14 @@ module _ (p : ℕ) where
     row : (n f : ℕ) (d : Deed) → t.phase ≡ f → Enough (suc n) m t f → Moves t s f d → Kept (stepped m d) → task (stepped m d) p ≡ d.task → Ends n m d
     row n f d q e l1 K' now = inr (refl, tt, rw (eq-eqb (get_or m.cells t.cell.0 0) _ refl) (omega arith))
     row n f d q e (l2 c) K' now = inr (refl, tt, omega arith)
-    row n f d q e (l3-passed c) K' now = inr (refl, tt, omega arith)
+    row n f d q e (l3_passed c) K' now = inr (refl, tt, omega arith)
     row n f d q e (l3_turned c) K' now = inr (refl, tt, omega (arith, rw (ne_eqb _ _ c) at e))
     row n f d q e l4 K' now = inl tt
     row n f d q e (l5 c) K' now = inr (refl, tt, omega arith)
     row n f d q e s1 K' now = inr (refl, tt, omega arith)
-    row n f d q e (s2-swapped c) K' now = inr (refl, tt, omega arith)
+    row n f d q e (s2_swapped c) K' now = inr (refl, tt, omega arith)
     row n f d q e (s2_missed c) K' now = inr (refl, tt, omega arith)
-    row n f d q e (s3-took c) K' now = inl tt
+    row n f d q e (s3_took c) K' now = inl tt
     row n f d q e (s3_shared h c) K' now =
         let v = t.held.0 in
         let left = get_or-set_same m.counts v (get_or m.counts v 0 - 1) 0 (in_counts m K (K.sound.each p hp).held) in
@@ -149,13 +149,13 @@ module _ (p : ℕ) where
         let hv = (K.sound.each p hp).held in
         let r = rw (get_or-set_same m.counts v (get_or m.counts v 0 - 1) 0 (in_counts m K hv)) at (found (stepped m d) K' p hp (ap (λ (y : Task). y.phase) now) v hv) in
         inr (refl, tt, rw (after_is m.k t.held (omega arith)) (r.0, omega (arith, r.1), r.2))
-    row n f d q e (s6-took c) K' now = inl tt
+    row n f d q e (s6_took c) K' now = inl tt
     row n f d q e (s6_busy c) K' now =
         let hc = (K.sound.each p hp).cursor in inr (refl, tt, rw (after_is m.k t.cursor (omega arith)) (later n m t.cursor.0 hc c e))
     row n f d q e (s7 c) K' now = inl tt
     row n f d q e (r1 c) K' now = inl tt
-    row n f d q e (v1-good c) K' now = inl tt
-    row n f d q e (v1-gone c) K' now = inl tt
+    row n f d q e (v1_good c) K' now = inl tt
+    row n f d q e (v1_gone c) K' now = inl tt
 
   solo : (n : ℕ) (m : Machine) → Kept m → p < m.p → T (busy (task m p).phase) → Enough n m (task m p) (task m p).phase → Within n m p
   unfolding Within carried_of

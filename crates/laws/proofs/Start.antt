@@ -101,10 +101,10 @@ module _ (n p k : ℕ) (s : List ℕ) (z : Sizes n p k) where
   unfolding fresh_of
   fresh_kept = record {
     sound = record {
-      cells-length = long.cells;
+      cells_length = long.cells;
       values_length = long.values;
-      counts-length = long.counts;
-      tasks-length = long.tasks;
+      counts_length = long.counts;
+      tasks_length = long.tasks;
       a_cell = z.a_cell;
       cells = z.cells;
       a_task = z.a_task;
@@ -114,7 +114,7 @@ module _ (n p k : ℕ) (s : List ℕ) (z : Sizes n p k) where
       pointed = λ x h. rw (fresh-cell n p k s x z.cells h) (omega (arith, z.room));
       each = λ q h. rw (task-at q h) (record { phase = omega arith; cell = z.a_cell; held = omega (arith, z.room); own = omega (arith, z.room); cursor = omega (arith, z.room) });
     };
-    free-counted = fresh-free;
+    free_counted = fresh-free;
     counted = λ i h. omega (arith, count_at i h, due i, nobody-keeps i);
     sole = λ i h. omega (arith, due i, bit_le (ltb i (n + p)));
     held = λ x y hx hy. rw (task-at x hx) (λ b. absurd b);

@@ -23,7 +23,7 @@ use Rattle.laws.specs.Meaning.{points, claims, pointers}
 use Rattle.laws.specs.Kept.{InRange, Sound, Kept}
 use Rattle.laws.proofs.Phases.{implied}
 use Rattle.laws.proofs.Entries.{by_entry, task_no}
-use Rattle.laws.proofs.Rows.{Moves, l1, l2, l3-passed, l3_turned, l4, l5, s1, s2-swapped, s2_missed, s3-took, s3_shared, s5, s6-took, s6_busy, s7, r1, v1-good, v1-gone, moves}
+use Rattle.laws.proofs.Rows.{Moves, l1, l2, l3_passed, l3_turned, l4, l5, s1, s2_swapped, s2_missed, s3_took, s3_shared, s5, s6_took, s6_busy, s7, r1, v1_good, v1_gone, moves}
 use Rattle.laws.proofs.Keeps.{task, in_list, in_counts, in_values, in_cells, pointed, own_apart, part, pairs, tame, Proper, KeptIfSound, Calm, Local, Leaves, stepped, calm, alone, lowers, claiming}
 use Rattle.laws.proofs.Ranges.{entry-sound}
 
@@ -130,43 +130,43 @@ module _ (m : Machine) (K : Kept m) (p : TaskNo) (hp : p.0 < m.p) where
         ready = omega arith;
       }) (λ i. omega arith)
   row_keeps (l2 h) e = calm m K p hp (at 2) e (at 3) _ (onward_calm 2 3 e (omega arith)) (λ i h. omega (arith, up_at m.counts t.held.0 i (in_counts m K in_t.held)))
-  row_keeps (l3-passed q) e = l3-keeps e q
+  row_keeps (l3_passed q) e = l3-keeps e q
   row_keeps (l3_turned q) e = goes 3 5 e (omega arith) (λ i. omega arith)
   row_keeps l4 e = goes 4 6 e (omega arith) (λ i. omega arith)
   row_keeps (l5 h) e = lowers m K p hp (at 5) e (at 1) h (onward_calm 5 1 e (omega arith)) (λ i. omega arith)
   row_keeps s1 e = s1-keeps e
-  row_keeps (s2-swapped q) e = s2-keeps e q
+  row_keeps (s2_swapped q) e = s2-keeps e q
   row_keeps (s2_missed q) e = goes 8 13 e (omega arith) (λ i. omega arith)
-  row_keeps (s3-took q) e = s3-keeps e q
+  row_keeps (s3_took q) e = s3-keeps e q
   row_keeps (s3_shared h q) e = lowers m K p hp (at 9) e (at 11) h (onward_calm 9 11 e (omega arith)) (λ i. omega arith)
   row_keeps (s5 h) e = lowers m K p hp (at 11) e _ h (probes 11 e t.held) (λ i. omega arith)
-  row_keeps (s6-took q) e = s6-keeps e q
+  row_keeps (s6_took q) e = s6-keeps e q
   row_keeps (s6_busy q) e = alone m K p hp (at 12) e _ (probes 12 e t.cursor) (λ i. omega arith)
   row_keeps (s7 h) e = lowers m K p hp (at 13) e (at 0) h (onward_calm 13 0 e (omega arith)) (λ i. omega arith)
   row_keeps (r1 h) e = lowers m K p hp (at 14) e (at 0) h (onward_calm 14 0 e (omega arith)) (λ i. omega arith)
-  row_keeps (v1-good q) e = goes 15 6 e (omega arith) (λ i. omega arith)
-  row_keeps (v1-gone q) e = goes 15 6 e (omega arith) (λ i. omega arith)
+  row_keeps (v1_good q) e = goes 15 6 e (omega arith) (λ i. omega arith)
+  row_keeps (v1_gone q) e = goes 15 6 e (omega arith) (λ i. omega arith)
 
   -- what a row writes is proper
   pub row_proper : {n : ℕ} {d : Deed} → Moves t (seen_of m t) n d → Proper m d.write
   row_proper l1 = tt
   row_proper (l2 h) = (in_t.held, refl)
-  row_proper (l3-passed q) = tt
+  row_proper (l3_passed q) = tt
   row_proper (l3_turned q) = tt
   row_proper l4 = tt
   row_proper (l5 h) = (in_t.held, refl)
   row_proper s1 = in_t.own
-  row_proper (s2-swapped q) = in_t.cell
+  row_proper (s2_swapped q) = in_t.cell
   row_proper (s2_missed q) = tt
-  row_proper (s3-took q) = (in_t.held, refl)
+  row_proper (s3_took q) = (in_t.held, refl)
   row_proper (s3_shared h q) = (in_t.held, refl)
   row_proper (s5 h) = (in_t.held, refl)
-  row_proper (s6-took q) = (in_t.cursor, rw q refl)
+  row_proper (s6_took q) = (in_t.cursor, rw q refl)
   row_proper (s6_busy q) = tt
   row_proper (s7 h) = (in_t.held, refl)
   row_proper (r1 h) = (in_t.held, refl)
-  row_proper (v1-good q) = tt
-  row_proper (v1-gone q) = tt
+  row_proper (v1_good q) = tt
+  row_proper (v1_gone q) = tt
 
   step_keeps : (d : Deed) → effect_of t (seen_of m t) ≡ Does d → KeptIfSound m p d.task d.write
   step_keeps d q = let r = moves t (seen_of m t) d q in stepped m K p hp t refl d.task d.write (row_keeps r refl) (row_proper r)

@@ -20,7 +20,7 @@ pub record Alike (m m' : Machine) : Type 0 where
   pub same_n : m.n ≡ m'.n
   pub same_p : m.p ≡ m'.p
   pub same_k : m.k ≡ m'.k
-  pub same-free : m.free ≡ m'.free
+  pub same_free : m.free ≡ m'.free
   pub cells : Agree 0 m.n m.cells m'.cells
   pub values : Agree 0 m.k m.values m'.values
   pub counts : Agree 0 m.k m.counts m'.counts

@@ -38,10 +38,10 @@ pub record InRange (n k : ℕ) (t : Task) : Type 0 where
 
 -- the arrays' lengths and document 01's ranges
 pub record Sound (m : Machine) : Type 0 where
-  pub cells-length : length m.cells ≡ 64
+  pub cells_length : length m.cells ≡ 64
   pub values_length : length m.values ≡ 128
-  pub counts-length : length m.counts ≡ 128
-  pub tasks-length : length m.tasks ≡ 16
+  pub counts_length : length m.counts ≡ 128
+  pub tasks_length : length m.tasks ≡ 16
   pub a_cell : 0 < m.n
   pub cells : m.n ≤ 64
   pub a_task : 0 < m.p
@@ -54,7 +54,7 @@ pub record Sound (m : Machine) : Type 0 where
 -- what every step keeps; the kept number of free nodes is the full count
 pub record Kept (m : Machine) : Type 0 where
   pub sound : Sound m
-  pub free-counted : m.free ≡ free m
+  pub free_counted : m.free ≡ free m
   pub counted : Counted m
   pub sole : Sole m
   pub held : Held m

@@ -33,7 +33,7 @@ module _ (s o₀ f₀ : List ℕ) (m₀ : Machine) where
       let none : entries_in s - 0 ≡ entries_in s = omega arith in
       record {
         taken = omega arith;
-        few = record { accepted = omega arith; loads = omega arith; load-steps = omega arith; turned_back = omega arith; swaps = omega arith };
+        few = record { accepted = omega arith; loads = omega arith; load_steps = omega arith; turned_back = omega arith; swaps = omega arith };
         long = refl;
         free-long = refl;
         ran = rw none;

@@ -41,7 +41,7 @@ few_more k r kind f f' few =
     record {
       accepted = omega (arith, few.accepted);
       loads = omega (arith, few.loads, begun_le kind);
-      load-steps = omega (arith, few.load-steps, step_le kind f);
+      load_steps = omega (arith, few.load_steps, step_le kind f);
       turned_back = omega (arith, few.turned_back, went_le 3 5 kind f f');
       swaps = omega (arith, few.swaps, went_le 8 9 kind f f');
     }
@@ -89,7 +89,7 @@ few_le k n r h few =
     record {
       accepted = omega (arith, few.accepted);
       loads = omega (arith, few.loads);
-      load-steps = omega (arith, few.load-steps);
+      load_steps = omega (arith, few.load_steps);
       turned_back = omega (arith, few.turned_back);
       swaps = omega (arith, few.swaps);
     }

@@ -29,6 +29,6 @@ counted_by r kind f f' =
 pub record Few (k : ℕ) (r : Report) : Type 0 where
   pub accepted : r.accepted ≤ k
   pub loads : r.loads ≤ k
-  pub load-steps : r.load_steps ≤ k
+  pub load_steps : r.load_steps ≤ k
   pub turned_back : r.turned_back ≤ k
   pub swaps : r.swaps ≤ k

@@ -111,7 +111,7 @@ entry_view b ten small = go (marked entry_mark b) refl
           kind_byte = omega (arith, small 3);
           cell_byte = omega (arith, small 4);
           spare_zero = z;
-          value-word = value-small b (entry_at b) small w;
+          value_word = value-small b (entry_at b) small w;
         } in
         rw (w, eq-eqb (get_or b 5 0) 0 z) (plain (entry_at b) p (sym (bytes_back b (entry_at b) small ten w)))
 

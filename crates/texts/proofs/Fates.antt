@@ -11,7 +11,7 @@ use Rattle.texts.specs.Types.{Entry, NotZero, NotALine, TooLarge, WrongMark, Too
 use Rattle.texts.specs.Line.{newline, Line, line_of}
 use Rattle.texts.specs.Made.{Made, good, bad, behind, then, gathered}
 use Rattle.texts.specs.Text.{newlines, unclosed, bytes_made, text_made}
-use Rattle.texts.specs.Form.{Fitting, entry_from, Lines, none, more, Imports, all_fit, not_closed, no_line, too_large, Exports, all_whole, cut_off, no-mark, not_zero}
+use Rattle.texts.specs.Form.{Fitting, entry_from, Lines, none, more, Imports, all_fit, not_closed, no_line, too_large, Exports, all_whole, cut_off, no_mark, not_zero}
 use Rattle.texts.proofs.Parts.{free-newlines, newlines-free}
 use Rattle.texts.proofs.Lines.{MadeOf, not_line, large, fit, made_of, made_none, line-free, line_large, bad-good, good-good, Plain}
 use Rattle.texts.proofs.Importing.{open_bad, made_more, made_last, by_lines, lines_made_lem, lines_whole, regroup}
@@ -64,14 +64,14 @@ made_lines t s = go (made_imports t)
 pub exports_made : {s : List ℕ} {m : Made} → Exports s m → text_made s ≡ m
 exports_made (all_whole ls) = lines_all_from ls
 exports_made (cut_off ls u h k) = lines_from ls u ∙ rw (from_short u h k)
-exports_made (no-mark ls b u ten q) = lines_from ls (b ++ u) ∙ rw (from_more b u ten, entry_unmarked b ten q)
+exports_made (no_mark ls b u ten q) = lines_from ls (b ++ u) ∙ rw (from_more b u ten, entry_unmarked b ten q)
 exports_made (not_zero ls b u ten q n) = lines_from ls (b ++ u) ∙ rw (from_more b u ten, entry_spoilt b ten q n)
 
 -- An entry of a line in front changes only the text.
 entry_in_front : (e : Entry) → Plain e → {s : List ℕ} {m : Made} → Exports s m → Exports (entry_bytes e ++ s) (behind (line_of e) m)
 entry_in_front e p (all_whole ls) = all_whole (lines_entry e p ls)
 entry_in_front e p (cut_off ls u h k) = cut_off (lines_entry e p ls) u h k
-entry_in_front e p (no-mark ls b u ten q) = no-mark (lines_entry e p ls) b u ten q
+entry_in_front e p (no_mark ls b u ten q) = no_mark (lines_entry e p ls) b u ten q
 entry_in_front e p (not_zero ls b u ten q k) = not_zero (lines_entry e p ls) b u ten q k
 
 -- Every schedule is described.
@@ -86,7 +86,7 @@ made_exports =
     short (c ∷ s) l = rw (from_short (c ∷ s) (omega arith) l) (cut_off none (c ∷ s) (omega arith) l)
 
     first : (b s : List ℕ) → length b ≡ 10 → Exports s (text_made s) → {m : Made} → EntryMade b m → Exports (b ++ s) (then m (text_made s))
-    first b s ten ih (unmarked q) = no-mark none b s ten q
+    first b s ten ih (unmarked q) = no_mark none b s ten q
     first b s ten ih (spoilt q n) = not_zero none b s ten q n
     first b s ten ih (plain e p same) = subst (λ (x : List ℕ). Exports (x ++ s) (behind (line_of e) (text_made s))) same (entry_in_front e p ih)
 
@@ -97,5 +97,5 @@ from_lines s small t = go (made_exports s small)
     go : {s : List ℕ} {m : Made} → Exports s m → m ≡ good t → (n : ℕ) × Lines n t s
     go (all_whole {n} {t = r} {s} ls) h = (n, subst (λ (x : List ℕ). Lines n x s) (good-good r t h) ls)
     go (cut_off ls u l k) h = absurd (bad-good TooShort t h)
-    go (no-mark ls b u ten q) h = absurd (bad-good WrongMark t h)
+    go (no_mark ls b u ten q) h = absurd (bad-good WrongMark t h)
     go (not_zero ls b u ten q k) h = absurd (bad-good NotZero t h)

@@ -127,10 +127,10 @@ lines_single (more w t s zero l f none) h = (
     kind = l.kind;
     cell = l.cell;
     value = l.value;
-    task-number = l.task-number;
-    kind-number = l.kind-number;
-    cell-number = l.cell-number;
-    value-number = l.value-number;
+    task_number = l.task_number;
+    kind_number = l.kind_number;
+    cell_number = l.cell_number;
+    value_number = l.value_number;
     line = append-nil w ∙ l.line;
   },
   f,

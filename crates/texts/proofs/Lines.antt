@@ -47,10 +47,10 @@ module _ (t k c v : List ℕ) (ht : is_number t ≡ true) (hk : is_number k ≡ 
 
 -- four texts that are numbers
 pub record Numbers (task kind cell value : List ℕ) : Type 0 where
-  pub task-number : is_number task ≡ true
-  pub kind-number : is_number kind ≡ true
-  pub cell-number : is_number cell ≡ true
-  pub value-number : is_number value ≡ true
+  pub task_number : is_number task ≡ true
+  pub kind_number : is_number kind ≡ true
+  pub cell_number : is_number cell ≡ true
+  pub value_number : is_number value ≡ true
 
 pub numbers_in : (w : List ℕ) → is_line w ≡ true → Numbers (task_text w) (kind_text w) (cell_text w) (value_text w)
 unfolding is_line
@@ -58,14 +58,14 @@ numbers_in w h =
     let p = both (is_number (task_text w) && is_number (kind_text w) && is_number (cell_text w)) (is_number (value_text w)) h in
     let q = both (is_number (task_text w) && is_number (kind_text w)) (is_number (cell_text w)) p.0 in
     let r = both (is_number (task_text w)) (is_number (kind_text w)) q.0 in
-    record { task-number = r.0; kind-number = r.1; cell-number = q.1; value-number = p.1 }
+    record { task_number = r.0; kind_number = r.1; cell_number = q.1; value_number = p.1 }
 
 -- they make up the line
 pub bare_of : (w : List ℕ) → is_line w ≡ true → w ≡ bare (task_text w) (kind_text w) (cell_text w) (value_text w)
 bare_of w h =
     let w1 = past comma w in
     let w2 = past comma w1 in
-    let long = number-long (value_text w) (numbers_in w h).value-number in
+    let long = number-long (value_text w) (numbers_in w h).value_number in
     let p2 = parted_past comma w2 long in
     let p1 = parted_past comma w1 (omega (arith, long, past_shorter comma w2)) in
     let p0 = parted_past comma w (omega (arith, long, past_shorter comma w2, past_shorter comma w1)) in
@@ -84,10 +84,10 @@ is_line_lem w h =
       kind = kind_text w;
       cell = cell_text w;
       value = value_text w;
-      task-number = n.task-number;
-      kind-number = n.kind-number;
-      cell-number = n.cell-number;
-      value-number = n.value-number;
+      task_number = n.task_number;
+      kind_number = n.kind_number;
+      cell_number = n.cell_number;
+      value_number = n.value_number;
       line = ap (λ (l : List ℕ). l ++ newline ∷ []) (bare_of w h);
     }
 
@@ -102,20 +102,20 @@ unsnoc v w b h =
 
 module _ {w : List ℕ} (l : Line w) where
   pub line-task : task_text (bare_text l) ≡ l.task
-  line-task = task_text_lem l.task l.kind l.cell l.value l.task-number l.kind-number l.cell-number
+  line-task = task_text_lem l.task l.kind l.cell l.value l.task_number l.kind_number l.cell_number
 
   pub line-kind : kind_text (bare_text l) ≡ l.kind
-  line-kind = kind_text_lem l.task l.kind l.cell l.value l.task-number l.kind-number l.cell-number
+  line-kind = kind_text_lem l.task l.kind l.cell l.value l.task_number l.kind_number l.cell_number
 
   pub line-cell : cell_text (bare_text l) ≡ l.cell
-  line-cell = cell_text_lem l.task l.kind l.cell l.value l.task-number l.kind-number l.cell-number
+  line-cell = cell_text_lem l.task l.kind l.cell l.value l.task_number l.kind_number l.cell_number
 
   pub line-value : value_text (bare_text l) ≡ l.value
-  line-value = value_text_lem l.task l.kind l.cell l.value l.task-number l.kind-number l.cell-number
+  line-value = value_text_lem l.task l.kind l.cell l.value l.task_number l.kind_number l.cell_number
 
   pub bare-line : is_line (bare_text l) ≡ true
   unfolding is_line
-  bare-line = rw (line-task, line-kind, line-cell, line-value, l.task-number, l.kind-number, l.cell-number, l.value-number)
+  bare-line = rw (line-task, line-kind, line-cell, line-value, l.task_number, l.kind_number, l.cell_number, l.value_number)
 
   -- no newline in it but the last
   pub bare-free : Free newline (bare_text l)
@@ -124,7 +124,7 @@ module _ {w : List ℕ} (l : Line w) where
       let c : (w : List ℕ) → is_number w ≡ true → Free newline (comma ∷ w) = λ w h. (λ e. omega arith, f w h) in
       free-append newline (l.task ++ comma ∷ l.kind ++ comma ∷ l.cell) (comma ∷ l.value)
       (free-append newline (l.task ++ comma ∷ l.kind) (comma ∷ l.cell)
-      (free-append newline l.task (comma ∷ l.kind) (f l.task l.task-number) (c l.kind l.kind-number)) (c l.cell l.cell-number)) (c l.value l.value-number)
+      (free-append newline l.task (comma ∷ l.kind) (f l.task l.task_number) (c l.kind l.kind_number)) (c l.cell l.cell_number)) (c l.value l.value_number)
 
 pub bare_is : (w : List ℕ) (l : Line (w ++ newline ∷ [])) → w ≡ bare_text l
 bare_is w l = unsnoc w (bare_text l) newline l.line
@@ -143,7 +143,7 @@ fits_in w h =
       task_byte = leb-true (value_of (task_text w)) 255 r.0;
       kind_byte = leb-true (value_of (kind_text w)) 255 r.1;
       cell_byte = leb-true (value_of (cell_text w)) 255 q.1;
-      value-word = omega (arith, leb-true (value_of (value_text w)) 4294967295 p.1);
+      value_word = omega (arith, leb-true (value_of (value_text w)) 4294967295 p.1);
     }
 
 pub fits_is : (w : List ℕ) → Fits (task_text w) (kind_text w) (cell_text w) (value_text w) → fits w ≡ true
@@ -171,7 +171,7 @@ module _ {w : List ℕ} (l : Line w) where
 
   -- its entry's line is the line
   pub line_back : line_of (entry_from l) ≡ w
-  line_back = rw (value-decimal l.task l.task-number, value-decimal l.kind l.kind-number, value-decimal l.cell l.cell-number, value-decimal l.value l.value-number) (sym l.line)
+  line_back = rw (value-decimal l.task l.task_number, value-decimal l.kind l.kind_number, value-decimal l.cell l.cell_number, value-decimal l.value l.value_number) (sym l.line)
 
   -- one that fits has at most 23 bytes
   pub line_most : Fitting l → length w ≤ 23
@@ -184,14 +184,14 @@ module _ {w : List ℕ} (l : Line w) where
         length-append (l.task ++ comma ∷ l.kind ++ comma ∷ l.cell) (comma ∷ l.value),
         length-append (l.task ++ comma ∷ l.kind) (comma ∷ l.cell),
         length-append l.task (comma ∷ l.kind),
-        e l.task l.task-number,
-        e l.kind l.kind-number,
-        e l.cell l.cell-number,
-        e l.value l.value-number,
+        e l.task l.task_number,
+        e l.kind l.kind_number,
+        e l.cell l.cell_number,
+        e l.value l.value_number,
         byte_length (value_of l.task) f.task_byte,
         byte_length (value_of l.kind) f.kind_byte,
         byte_length (value_of l.cell) f.cell_byte,
-        word-length (value_of l.value) f.value-word,
+        word-length (value_of l.value) f.value_word,
       )
 
 -- what is no line
@@ -228,7 +228,7 @@ pub record Plain (e : Entry) : Type 0 where
   pub kind_byte : e.kind ≤ 255
   pub cell_byte : e.cell.0 ≤ 255
   pub spare_zero : e.spare ≡ 0
-  pub value-word : e.value < 4294967296
+  pub value_word : e.value < 4294967296
 
 -- an entry's line is a line
 abbrev pub entry-line : (e : Entry) → Line (line_of e)
@@ -238,10 +238,10 @@ entry-line e =
       kind = decimal e.kind;
       cell = decimal e.cell.0;
       value = decimal e.value;
-      task-number = decimal-number e.task.0;
-      kind-number = decimal-number e.kind;
-      cell-number = decimal-number e.cell.0;
-      value-number = decimal-number e.value;
+      task_number = decimal-number e.task.0;
+      kind_number = decimal-number e.kind;
+      cell_number = decimal-number e.cell.0;
+      value_number = decimal-number e.value;
       line = refl;
     }
 
@@ -255,7 +255,7 @@ entry_line_fits e p =
       task_byte = rw (decimal-value e.task.0) p.task_byte;
       kind_byte = rw (decimal-value e.kind) p.kind_byte;
       cell_byte = rw (decimal-value e.cell.0) p.cell_byte;
-      value-word = rw (decimal-value e.value) p.value-word;
+      value_word = rw (decimal-value e.value) p.value_word;
     }
 
 -- what is bad is not good

@@ -157,10 +157,10 @@ module _ (s : List ℕ) (at a i b j c k d next : ℕ) (f : Field comma s at a i)
         kind = g.number;
         cell = h.number;
         value = e.number;
-        task-number = f.numeral;
-        kind-number = g.numeral;
-        cell-number = h.numeral;
-        value-number = e.numeral;
+        task_number = f.numeral;
+        kind_number = g.numeral;
+        cell_number = h.numeral;
+        value_number = e.numeral;
         line = refl;
       }
 
@@ -230,31 +230,31 @@ no_line s at n =
 
 module _ (s : List ℕ) (at : ℕ) where
   second : (p : Parsed (drop at s)) → field_at comma s at ≡ Number (capped (value_of p.line.task)) (at + length p.line.task + 1)
-  second p = field_of comma refl s at p.line.task _ p.line.task-number p.text
+  second p = field_of comma refl s at p.line.task _ p.line.task_number p.text
 
   pub no_first : field_at comma s at ≡ NoNumber → line_at s at ≡ BadLine NotALine
   no_first h = no_line s at (λ p. number-none _ _ (sym (second p) ∙ h))
 
   module _ (a i : ℕ) (f : field_at comma s at ≡ Number a i) where
     from_kind : (p : Parsed (drop at s)) → drop i s ≡ p.line.kind ++ comma ∷ (p.line.cell ++ comma ∷ (p.line.value ++ newline ∷ p.rest))
-    from_kind p = next_of comma refl s at p.line.task _ p.line.task-number p.text a i f
+    from_kind p = next_of comma refl s at p.line.task _ p.line.task_number p.text a i f
 
     pub no_second : field_at comma s i ≡ NoNumber → line_at s at ≡ BadLine NotALine
-    no_second h = no_line s at (λ p. number-none _ _ (sym (field_of comma refl s i p.line.kind _ p.line.kind-number (from_kind p)) ∙ h))
+    no_second h = no_line s at (λ p. number-none _ _ (sym (field_of comma refl s i p.line.kind _ p.line.kind_number (from_kind p)) ∙ h))
 
     module _ (b j : ℕ) (g : field_at comma s i ≡ Number b j) where
       from_cell : (p : Parsed (drop at s)) → drop j s ≡ p.line.cell ++ comma ∷ (p.line.value ++ newline ∷ p.rest)
-      from_cell p = next_of comma refl s i p.line.kind _ p.line.kind-number (from_kind p) b j g
+      from_cell p = next_of comma refl s i p.line.kind _ p.line.kind_number (from_kind p) b j g
 
       pub no_third : field_at comma s j ≡ NoNumber → line_at s at ≡ BadLine NotALine
-      no_third h = no_line s at (λ p. number-none _ _ (sym (field_of comma refl s j p.line.cell _ p.line.cell-number (from_cell p)) ∙ h))
+      no_third h = no_line s at (λ p. number-none _ _ (sym (field_of comma refl s j p.line.cell _ p.line.cell_number (from_cell p)) ∙ h))
 
       module _ (c k : ℕ) (l : field_at comma s j ≡ Number c k) where
         from_value : (p : Parsed (drop at s)) → drop k s ≡ p.line.value ++ newline ∷ p.rest
-        from_value p = next_of comma refl s j p.line.cell _ p.line.cell-number (from_cell p) c k l
+        from_value p = next_of comma refl s j p.line.cell _ p.line.cell_number (from_cell p) c k l
 
         pub no_fourth : field_at newline s k ≡ NoNumber → line_at s at ≡ BadLine NotALine
-        no_fourth h = no_line s at (λ p. number-none _ _ (sym (field_of newline refl s k p.line.value _ p.line.value-number (from_value p)) ∙ h))
+        no_fourth h = no_line s at (λ p. number-none _ _ (sym (field_of newline refl s k p.line.value _ p.line.value_number (from_value p)) ∙ h))
 
         pub all_four : (d next : ℕ) → field_at newline s k ≡ Number d next → line_at s at ≡ sized a b c d next
         all_four d next m = line_read s at a i b j c k d next (of_field comma s at a i f) (of_field comma s i b j g) (of_field comma s j c k l) (of_field newline s k d next m)

@@ -13,7 +13,7 @@ pub record Fits (task kind cell value : List ℕ) : Type 0 where
   pub task_byte : value_of task ≤ 255
   pub kind_byte : value_of kind ≤ 255
   pub cell_byte : value_of cell ≤ 255
-  pub value-word : value_of value < 4294967296
+  pub value_word : value_of value < 4294967296
 
 abbrev pub Fitting : {w : List ℕ} → Line w → Type 0
 Fitting l = Fits l.task l.kind l.cell l.value
@@ -38,5 +38,5 @@ pub data Imports : List ℕ → Made → Type 0 where
 pub data Exports : List ℕ → Made → Type 0 where
   all_whole : {n : ℕ} {t s : List ℕ} → Lines n t s → Exports s (good t)
   cut_off : {n : ℕ} {t s : List ℕ} → Lines n t s → (u : List ℕ) → 1 ≤ length u → length u < 10 → Exports (s ++ u) (bad TooShort)
-  no-mark : {n : ℕ} {t s : List ℕ} → Lines n t s → (b u : List ℕ) → length b ≡ 10 → marked entry_mark b ≡ false → Exports (s ++ (b ++ u)) (bad WrongMark)
+  no_mark : {n : ℕ} {t s : List ℕ} → Lines n t s → (b u : List ℕ) → length b ≡ 10 → marked entry_mark b ≡ false → Exports (s ++ (b ++ u)) (bad WrongMark)
   not_zero : {n : ℕ} {t s : List ℕ} → Lines n t s → (b u : List ℕ) → length b ≡ 10 → marked entry_mark b ≡ true → get_or b 5 0 ≢ 0 → Exports (s ++ (b ++ u)) (bad NotZero)

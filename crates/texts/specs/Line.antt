@@ -23,10 +23,10 @@ pub record Line (w : List ℕ) : Type 0 where
   pub kind : List ℕ
   pub cell : List ℕ
   pub value : List ℕ
-  pub task-number : is_number task ≡ true
-  pub kind-number : is_number kind ≡ true
-  pub cell-number : is_number cell ≡ true
-  pub value-number : is_number value ≡ true
+  pub task_number : is_number task ≡ true
+  pub kind_number : is_number kind ≡ true
+  pub cell_number : is_number cell ≡ true
+  pub value_number : is_number value ≡ true
   pub line : w ≡ joined task kind cell value
 
 -- the line of an entry

@@ -15,43 +15,35 @@ use Rattle.runs.specs.Lent.{made_of}
 use Rattle.runs.specs.Run.{replies_from, ran_of, replies_of, buffer_of, noted_of}
 use Rattle.runs.proofs.run_lent.Goals as goal
 
--- the two range tests, of the tables and of the task records
+-- the range test by its two parts, of the tables and of the task records, as the code finds them
 module _ (m : Machine) where
-  abbrev Tables : Bool → Type 0
-  Tables b = tables_ok m.n m.p m.k m.free m.cells m.counts ≡ b
+  by_tables : (a : Bool) → a ≡ tables_ok m.n m.p m.k m.free m.cells m.counts → in_range m ≡ (a && every (task_ok_in m.tasks m.n m.k) (min m.p 16))
+  by_tables a h = range_tests m ∙ ap (λ (x : Bool). x && every (task_ok_in m.tasks m.n m.k) (min m.p 16)) (sym h)
 
-  abbrev Tasks : Bool → Type 0
-  Tasks b = every (task_ok_in m.tasks m.n m.k) (min m.p 16) ≡ b
-
-  tables_out : Tables false → in_range m ≡ false
-  tables_out h = range_tests m ∙ ap (λ (b : Bool). b && every (task_ok_in m.tasks m.n m.k) (min m.p 16)) h
-
-  by_tasks : Tables true → (b : Bool) → Tasks b → in_range m ≡ b
-  by_tasks h b k = range_tests m ∙ ap (λ (a : Bool). a && every (task_ok_in m.tasks m.n m.k) (min m.p 16)) h ∙ k
+  by_both : (a b : Bool) → a ≡ tables_ok m.n m.p m.k m.free m.cells m.counts → b ≡ every (task_ok_in m.tasks m.n m.k) (min m.p 16) → in_range m ≡ (a && b)
+  by_both a b h k = by_tables a h ∙ ap (λ (y : Bool). a && y) (sym k)
 
 pub returns-then-not-tables_ok : goal.returns-then-not-tables_ok
 unfolding ran_of replies_of buffer_of noted_of
 returns-then-not-tables_ok c =
     let a = c.args in
-    let damaged = tables_out (made_of a.n a.p a.k a.free a.cells.now a.values.now a.counts.now a.ts) (sym (c.if-not-tables_ok.ensures {u = tt})) in
+    let damaged = by_tables (made_of a.n a.p a.k a.free a.cells.now a.values.now a.counts.now a.ts) false (c.if-not-tables_ok.ensures {u = tt}) in
     (rw (c.untried.ensures, damaged), rw damaged, rw damaged)
 
 pub returns-then-not-tasks_ok : goal.returns-then-not-tasks_ok
 unfolding ran_of replies_of buffer_of noted_of
 returns-then-not-tasks_ok c =
     let a = c.args in
-    let damaged =
-    by_tasks (made_of a.n a.p a.k a.free a.cells.now a.values.now a.counts.now a.ts) (sym (c.if-not-tables_ok.ensures {u = tt})) false
-    (sym (c.if-not-tasks_ok.ensures {u = tt})) in
+    let m = made_of a.n a.p a.k a.free a.cells.now a.values.now a.counts.now a.ts in
+    let damaged = by_both m true false (c.if-not-tables_ok.ensures {u = tt}) (c.if-not-tasks_ok.ensures {u = tt}) in
     (rw (c.untried-then-not-tasks_ok.ensures, damaged), rw damaged, rw damaged)
 
 pub returns-then-len-gt65530 : goal.returns-then-len-gt65530
 unfolding ran_of replies_of buffer_of noted_of
 returns-then-len-gt65530 c =
     let a = c.args in
-    let sound =
-    by_tasks (made_of a.n a.p a.k a.free a.cells.now a.values.now a.counts.now a.ts) (sym (c.if-not-tables_ok.ensures {u = tt})) true
-    (sym (c.if-not-tasks_ok.ensures {u = tt})) in
+    let m = made_of a.n a.p a.k a.free a.cells.now a.values.now a.counts.now a.ts in
+    let sound = by_both m true true (c.if-not-tables_ok.ensures {u = tt}) (c.if-not-tasks_ok.ensures {u = tt}) in
     let long = lt-leb _ 65530 c.if-len-gt65530.true in
     (rw (c.untried-then-len-gt65530.ensures, sound, lt-ltb 65530 _ c.if-len-gt65530.true), rw (sound, long), rw (sound, long))
 
@@ -59,9 +51,8 @@ pub returns-then-out-len : goal.returns-then-out-len
 unfolding ran_of replies_of buffer_of noted_of
 returns-then-out-len c =
     let a = c.args in
-    let sound =
-    by_tasks (made_of a.n a.p a.k a.free a.cells.now a.values.now a.counts.now a.ts) (sym (c.if-not-tables_ok.ensures {u = tt})) true
-    (sym (c.if-not-tasks_ok.ensures {u = tt})) in
+    let m = made_of a.n a.p a.k a.free a.cells.now a.values.now a.counts.now a.ts in
+    let sound = by_both m true true (c.if-not-tables_ok.ensures {u = tt}) (c.if-not-tasks_ok.ensures {u = tt}) in
     let short : length a.out.now < 8 * entries_in a.s.now = c.if-out-len.true in
     let fits = le-leb _ 65530 c.if-len-gt65530.false in
     let more = lt-leb _ _ short in
@@ -70,9 +61,8 @@ returns-then-out-len c =
 pub run_tables-requires : goal.run_tables-requires
 run_tables-requires c =
     let a = c.args in
-    let sound =
-    by_tasks (made_of a.n a.p a.k a.free a.cells.now a.values.now a.counts.now a.ts) (sym (c.if-not-tables_ok.ensures {u = tt})) true
-    (sym (c.if-not-tasks_ok.ensures {u = tt})) in
+    let m = made_of a.n a.p a.k a.free a.cells.now a.values.now a.counts.now a.ts in
+    let sound = by_both m true true (c.if-not-tables_ok.ensures {u = tt}) (c.if-not-tasks_ok.ensures {u = tt}) in
     (c.if-len-gt65530.false, c.if-out-len.false, c.requires, sound)
 
 pub returns : goal.returns
@@ -80,7 +70,7 @@ unfolding ran_of replies_of buffer_of noted_of
 returns c =
     let a = c.args in
     let m = made_of a.n a.p a.k a.free a.cells.now a.values.now a.counts.now a.ts in
-    let sound = by_tasks m (sym (c.if-not-tables_ok.ensures {u = tt})) true (sym (c.if-not-tasks_ok.ensures {u = tt})) in
+    let sound = by_both m true true (c.if-not-tables_ok.ensures {u = tt}) (c.if-not-tasks_ok.ensures {u = tt}) in
     let fits = le-leb _ 65530 c.if-len-gt65530.false in
     let room = le-leb _ _ c.if-out-len.false in
     let done = c.run_tables.ensures in (
