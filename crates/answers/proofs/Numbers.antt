@@ -1,9 +1,10 @@
 -- No answer has the number 18, and one alone has 22. Assumes nothing.
+use Rattle.std.specs.Prelude.{Ok, Err}
 use Prim.Native.Nat.{◌≤◌}
 use native.Mathlib.Omega.{arith}
 use mathlib.Core.Path.{refl, ap}
 use mathlib.Core.Logic.{◌≢◌}
-use Rattle.answers.specs.Types.{Reply, Moved, Loaded, Took, Lost, Released, Good, Gone, Refusal, Sizes, NoTask, NoKind, NoCell, NotZero, NotNow, NoStep, WrongMark, TooShort, NoRoom, Damaged, TooLong, NotALine, TooLarge, OutputShort, Answer, Replied, Refused}
+use Rattle.answers.specs.Types.{Reply, Moved, Loaded, Took, Lost, Released, Good, Gone, Refusal, Sizes, NoTask, NoKind, NoCell, NotZero, NotNow, NoStep, WrongMark, TooShort, NoRoom, Damaged, TooLong, NotALine, TooLarge, OutputShort, Answer}
 use Rattle.answers.specs.Numbers.{reply_number, refusal_number, number_of}
 
 -- replies have the numbers up to 6
@@ -34,9 +35,9 @@ refusal_number_is TooLarge = omega arith
 refusal_number_is OutputShort = omega arith
 
 pub no_18 : (a : Answer) → number_of a ≢ 18
-no_18 (Replied r) = omega (arith, reply_at_most r)
-no_18 (Refused r) = (refusal_number_is r).0
+no_18 (Ok r) = omega (arith, reply_at_most r)
+no_18 (Err r) = (refusal_number_is r).0
 
-pub only_22 : (a : Answer) → a ≢ Refused Damaged → number_of a ≢ 22
-only_22 (Replied r) ne = omega (arith, reply_at_most r)
-only_22 (Refused r) ne = (refusal_number_is r).1 (λ q. ne (ap Refused q))
+pub only_22 : (a : Answer) → a ≢ Err Damaged → number_of a ≢ 22
+only_22 (Ok r) ne = omega (arith, reply_at_most r)
+only_22 (Err r) ne = (refusal_number_is r).1 (λ q. ne (ap Err q))

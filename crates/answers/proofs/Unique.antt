@@ -1,5 +1,9 @@
 -- Any two results that a public function's contract allows are equal. Assumes nothing.
 use mathlib.Core.Path.{refl, sym, ◌∙◌}
+use denote.RattleType.{RattleType}
+use denote.Param.Laws.{Laws, IsCopy}
+use mir.Syntax.{Dict}
+use Rattle.std.specs.declared.clone.Clone.{Ghosts}
 use Rattle.contracts.specs.One.{One}
 use Rattle.answers.proofs.reply_number.Kinds as reply-number·k
 use Rattle.answers.proofs.reply_number.Reads as reply-number
@@ -7,6 +11,8 @@ use Rattle.answers.proofs.reply_value.Kinds as reply-value·k
 use Rattle.answers.proofs.reply_value.Reads as reply-value
 use Rattle.answers.proofs.refusal_number.Kinds as refusal-number·k
 use Rattle.answers.proofs.refusal_number.Reads as refusal-number
+use Rattle.answers.proofs.refusal_or_0.Kinds as refusal-or-0·k
+use Rattle.answers.proofs.refusal_or_0.Reads as refusal-or-0
 use Rattle.answers.proofs.number.Kinds as number·k
 use Rattle.answers.proofs.number.Reads as number
 use Rattle.answers.proofs.value.Kinds as value·k
@@ -20,6 +26,11 @@ reply_value_one κs a z z' ws ws' p q q' = (q ∙ sym q', refl)
 
 pub refusal_number_one : One refusal-number·k.ps refusal-number·k.r refusal-number.Pre refusal-number.Post
 refusal_number_one κs a z z' ws ws' p q q' = (q ∙ sym q', refl)
+
+-- of each type that it is asked with
+pub refusal_or_0_one : (A : RattleType) (l : Laws A) (c : IsCopy A) (g : Ghosts A.Denot) (d : Dict)
+    → One (refusal-or-0·k.ps A l c) (refusal-or-0·k.r A l c) (refusal-or-0.Pre A l c g d) (refusal-or-0.Post A l c g d)
+refusal_or_0_one A l c g d κs a z z' ws ws' p q q' = (q ∙ sym q', refl)
 
 pub number_one : One number·k.ps number·k.r number.Pre number.Post
 number_one κs a z z' ws ws' p q q' = (q ∙ sym q', refl)

@@ -1,7 +1,7 @@
 -- Number and value of each case of an answer, by documents 01 and 02. 24 belongs to the holders question, in the crate tasks;
 -- 18, which document 01 gave to a store whose task was linked to another cell, is given no more: document 02 answers such a store.
-use Rattle.std.specs.Prelude.{ℕ}
-use Rattle.answers.specs.Types.{Reply, Moved, Loaded, Took, Lost, Released, Good, Gone, Refusal, Sizes, NoTask, NoKind, NoCell, NotZero, NotNow, NoStep, WrongMark, TooShort, NoRoom, Damaged, TooLong, NotALine, TooLarge, OutputShort, Answer, Replied, Refused}
+use Rattle.std.specs.Prelude.{ℕ, Result, Ok, Err}
+use Rattle.answers.specs.Types.{Reply, Moved, Loaded, Took, Lost, Released, Good, Gone, Refusal, Sizes, NoTask, NoKind, NoCell, NotZero, NotNow, NoStep, WrongMark, TooShort, NoRoom, Damaged, TooLong, NotALine, TooLarge, OutputShort, Answer}
 
 abbrev pub reply_number : Reply → ℕ
 reply_number Moved = 0  -- begun or moved
@@ -39,10 +39,15 @@ refusal_number NotALine = 30  -- text: a line without a line's form
 refusal_number TooLarge = 31  -- text: a number too large for its place
 refusal_number OutputShort = 32  -- text: output buffer too short
 
+-- the number of a refusal, and 0 for what was not refused
+abbrev pub refusal_or_0 : {A : Type 0} → Result A Refusal → ℕ
+refusal_or_0 (Ok x) = 0
+refusal_or_0 (Err r) = refusal_number r
+
 abbrev pub number_of : Answer → ℕ
-number_of (Replied r) = reply_number r
-number_of (Refused r) = refusal_number r
+number_of (Ok r) = reply_number r
+number_of (Err r) = refusal_number r
 
 abbrev pub value_of : Answer → ℕ
-value_of (Replied r) = reply_value r
-value_of (Refused r) = 0
+value_of (Ok r) = reply_value r
+value_of (Err r) = 0

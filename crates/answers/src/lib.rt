@@ -2,7 +2,7 @@
 #![tactic(auto)]
 
 ghost use Rattle.std.specs.Prelude.{◌≡◌};
-ghost use Rattle.answers.specs.Numbers.{reply_number, reply_value, refusal_number, number_of, value_of};
+ghost use Rattle.answers.specs.Numbers.{reply_number, reply_value, refusal_number, refusal_or_0, number_of, value_of};
 
 // What an accepted entry did.
 #[derive(Clone, Copy)]
@@ -36,11 +36,8 @@ pub enum Refusal {
     OutputShort,
 }
 
-#[derive(Clone, Copy)]
-pub enum Answer {
-    Replied(Reply),
-    Refused(Refusal),
-}
+// A reply, or why there is none.
+pub type Answer = Result<Reply, Refusal>;
 
 pub fn reply_number(r: Reply) -> u8
     ensures { result ≡ reply_number r }
@@ -60,13 +57,8 @@ pub fn reply_value(r: Reply) -> u32
     ensures { result ≡ reply_value r }
 {
     match r {
-        Reply::Moved => 0,
         Reply::Loaded(v) => v,
-        Reply::Took => 0,
-        Reply::Lost => 0,
-        Reply::Released => 0,
-        Reply::Good => 0,
-        Reply::Gone => 0,
+        _ => 0,
     }
 }
 
@@ -92,12 +84,22 @@ pub fn refusal_number(r: Refusal) -> u8
     }
 }
 
+// The number of a refusal, and 0 for what was not refused.
+pub fn refusal_or_0<T: Copy>(a: Result<T, Refusal>) -> u8
+    ensures { result ≡ refusal_or_0 a }
+{
+    match a {
+        Ok(_) => 0,
+        Err(r) => refusal_number(r),
+    }
+}
+
 pub fn number(a: Answer) -> u8
     ensures { result ≡ number_of a }
 {
     match a {
-        Answer::Replied(r) => reply_number(r),
-        Answer::Refused(r) => refusal_number(r),
+        Ok(r) => reply_number(r),
+        Err(r) => refusal_number(r),
     }
 }
 
@@ -105,7 +107,7 @@ pub fn value(a: Answer) -> u32
     ensures { result ≡ value_of a }
 {
     match a {
-        Answer::Replied(r) => reply_value(r),
-        Answer::Refused(_) => 0,
+        Ok(r) => reply_value(r),
+        Err(_) => 0,
     }
 }

@@ -1,10 +1,8 @@
 -- What a row of the table of cases holds, and when it is right: all from bytes, through the definitions that the contracts cite.
-use Rattle.std.specs.Prelude.{ℕ, ◌+◌, ◌-◌, Bool, true, false, ◌&&◌, List, [], ◌∷◌, ◌++◌, eqb, length, take, replicate}
+use Rattle.std.specs.Prelude.{ℕ, ◌+◌, ◌-◌, Bool, true, false, ◌&&◌, List, [], ◌∷◌, ◌++◌, eqb, length, take, replicate, Result}
 use Rattle.answers.specs.Numbers.{number_of, value_of}
 use Rattle.cells.specs.declared.Machine.{Machine}
 use Rattle.cells.specs.declared.Applied.{Applied}
-use Rattle.cells.specs.declared.SetupAnswer.{SetupAnswer}
-use Rattle.cells.specs.declared.free.FreeCount.{FreeCount}
 use Rattle.cells.specs.Free.{free_nodes, free_number, free_value}
 use Rattle.cells.specs.Setup.{setup_of, setup_number, setup_bytes}
 use Rattle.wire.specs.Bytes.{reply_of}
@@ -13,6 +11,7 @@ use Rattle.texts.specs.Made.{Made, answered, laid, text_number, text_bytes}
 use Rattle.texts.specs.Text.{imported, exported}
 use Rattle.laws.specs.Bytes.{go, load, store, validate}
 use Rattle.faults.specs.Benches.{Bench}
+use Rattle.answers.specs.declared.Refusal.{Refusal}
 
 -- a line of a schedule by hand: an entry's bytes with its reply's number, task and value; or the counts of the nodes below K at that point; or
 -- what the free-nodes question is answered there
@@ -64,7 +63,7 @@ abbrev pub replied : Applied → ℕ → ℕ → ℕ → Bool
 replied a number p y = eqb (number_of a.answer) number && (eqb a.task p && eqb (value_of a.answer) y)
 
 -- what the free-nodes question was answered
-abbrev pub told : FreeCount → ℕ → Bool
+abbrev pub told : Result ℕ Refusal → ℕ → Bool
 told f n = eqb (free_number f) 0 && eqb (free_value f) n
 
 -- each line in turn
@@ -75,7 +74,7 @@ agrees b m (counts cs ∷ ls) = same (take m.k m.counts) cs && agrees b m ls
 agrees b m (frees n ∷ ls) = told (free_nodes m) n && agrees b m ls
 
 -- the answer that a setup was given
-abbrev pub set_with : SetupAnswer → ℕ → ℕ → Bool
+abbrev pub set_with : Result ℕ Refusal → ℕ → ℕ → Bool
 set_with a number used = eqb (setup_number a) number && eqb (setup_bytes a) used
 
 -- the entries of some lines as one schedule, and their replies' bytes

@@ -1,4 +1,5 @@
 -- What is decided over lent tables is what is decided of the machine, so that carrying it out is `apply_of`. Assumes nothing.
+use Rattle.std.specs.Prelude.{Ok, Err}
 use Prim.Native.Nat.{ℕ, ◌≤◌, ◌<◌, min}
 use mathlib.Core.Path.{◌≡◌, refl, sym, ap, ◌∙◌}
 use mathlib.Core.Bool.{Bool, true, false, cond, not, ◌&&◌}
@@ -16,7 +17,7 @@ use Rattle.tables.specs.Tables.{sizes_ok, cell_ok, count_ok, task_ok_in, task_in
 use Rattle.tables.proofs.Laws.{sizes_bounds}
 use Rattle.entries.specs.Entry.{entry_of}
 use Rattle.entries.specs.Order.{order_of}
-use Rattle.cells.specs.Types.{Machine, TaskNo, Task, Seen, Deed, Effect, Does, Refuses, Refusal, Replied, NoTask, WrongMark, TooShort, Entry, Whole, Unread, Decision}
+use Rattle.cells.specs.Types.{Machine, TaskNo, Task, Seen, Deed, Effect, Refusal, NoTask, WrongMark, TooShort, Entry, Decision}
 use Rattle.cells.specs.Machine.{seen_of, written, refused_by, carried_of, pool_ok, tables_ok, in_range}
 use Rattle.cells.specs.Apply.{judged_of, guarded, decided_of, decision_of, carried_by, apply_of}
 
@@ -37,25 +38,25 @@ order_same m e t few is =
     ]
 
 judged_same : (m : Machine) (t : Task) (a b : Bool) (e : Entry) → m.p ≤ 16 → t ≡ get_or m.tasks (min e.task.0 15) no_task
-    → judged_of m.n m.p (λ q. t) (seen_of m) (cond a (Unread TooShort) (cond b (Unread WrongMark) (Whole e)))
-    ≡ judged_of m.n m.p (task_in m.tasks) (seen_of m) (cond a (Unread TooShort) (cond b (Unread WrongMark) (Whole e)))
+    → judged_of m.n m.p (λ q. t) (seen_of m) (cond a (Err TooShort) (cond b (Err WrongMark) (Ok e)))
+    ≡ judged_of m.n m.p (task_in m.tasks) (seen_of m) (cond a (Err TooShort) (cond b (Err WrongMark) (Ok e)))
 unfolding judged_of
 judged_same m t true b e few is = refl
 judged_same m t false true e few is = refl
 judged_same m t false false e few is = ap (λ (x : Effect). record { task = e.task.0; effect = x }) (order_same m e t few is)
 
 -- an accepted entry is whole, and its task is below P
-pub order_does : (n p : ℕ) (e : Entry) (t : Task) (o : Seen) (x : Deed) → order_of n p e t o ≡ Does x → e.task.0 < p
+pub order_does : (n p : ℕ) (e : Entry) (t : Task) (o : Seen) (x : Deed) → order_of n p e t o ≡ Ok x → e.task.0 < p
 unfolding order_of
 order_does n p e t o x h = leb-false p e.task.0 (below (leb p e.task.0) _ h)
   where
-    below : (b : Bool) (f : Effect) → cond b (Refuses NoTask) f ≡ Does x → b ≡ false
+    below : (b : Bool) (f : Effect) → cond b (Err NoTask) f ≡ Ok x → b ≡ false
     below true f h = let z : ◌≡◌ {A = ℕ} 0 1 = cc in absurd (omega arith)
     below false f h = refl
 
 judged_does : (n p : ℕ) (at : TaskNo → Task) (sees : Task → Seen) (a b : Bool) (e : Entry) (x : Deed)
-    → (judged_of n p at sees (cond a (Unread TooShort) (cond b (Unread WrongMark) (Whole e)))).effect ≡ Does x
-    → ((judged_of n p at sees (cond a (Unread TooShort) (cond b (Unread WrongMark) (Whole e)))).task ≡ e.task.0) × (e.task.0 < p)
+    → (judged_of n p at sees (cond a (Err TooShort) (cond b (Err WrongMark) (Ok e)))).effect ≡ Ok x
+    → ((judged_of n p at sees (cond a (Err TooShort) (cond b (Err WrongMark) (Ok e)))).task ≡ e.task.0) × (e.task.0 < p)
 unfolding judged_of
 judged_does n p at sees true b e x h = let z : ◌≡◌ {A = ℕ} 0 1 = cc in absurd (omega arith)
 judged_does n p at sees false true e x h = let z : ◌≡◌ {A = ℕ} 0 1 = cc in absurd (omega arith)
@@ -106,14 +107,14 @@ module _ (m : Machine) (s : List ℕ) (t : Task) (inside : Bool) (known : Known 
       guarded-same (ok && inside) _ _ (λ h. judged_same m t (ltb (length s) 10) (not (marked entry_mark s)) entry (few_tasks m (both ok inside h).0) known.task)
       ∙ ap (λ (b : Bool). guarded b (judged_of m.n m.p (task_in m.tasks) (seen_of m) (entry_of s))) (ap (λ (b : Bool). ok && b) known.ranges ∙ sym (range_tests m))
 
-  decided_does : (x : Deed) → (decided_on m t inside s).effect ≡ Does x → ((decided_on m t inside s).task ≡ get_or s 2 0) × (get_or s 2 0 ≤ 15)
+  decided_does : (x : Deed) → (decided_on m t inside s).effect ≡ Ok x → ((decided_on m t inside s).task ≡ get_or s 2 0) × (get_or s 2 0 ≤ 15)
   unfolding decided_of entry_of
   decided_does x h = does (ok && inside) _ h (λ g i. let few = few_tasks m (both ok inside g).0 in
       let d = judged_does m.n m.p (λ q. t) (seen_of m) (ltb (length s) 10) (not (marked entry_mark s)) entry x i in
       (d.0, omega (arith, d.1)))
     where
-      does : (b : Bool) (d : Decision) → (guarded b d).effect ≡ Does x
-          → (b ≡ true → d.effect ≡ Does x → (d.task ≡ get_or s 2 0) × (get_or s 2 0 ≤ 15))
+      does : (b : Bool) (d : Decision) → (guarded b d).effect ≡ Ok x
+          → (b ≡ true → d.effect ≡ Ok x → (d.task ≡ get_or s 2 0) × (get_or s 2 0 ≤ 15))
           → ((guarded b d).task ≡ get_or s 2 0) × (get_or s 2 0 ≤ 15)
       does true d h f = f refl h
       does false d h f = let z : ◌≡◌ {A = ℕ} 0 1 = cc in absurd (omega arith)
@@ -123,12 +124,12 @@ module _ (m : Machine) (s : List ℕ) (t : Task) (inside : Bool) (known : Known 
     unfolding apply_of
     applied = ap (carried_by m) (sym (is ∙ decided_same))
 
-    pub applied_refuses : (y : Refusal) → d.effect ≡ Refuses y → apply_of m s ≡ refused_by m d.task y
+    pub applied_refuses : (y : Refusal) → d.effect ≡ Err y → apply_of m s ≡ refused_by m d.task y
     unfolding carried_of
     applied_refuses y h = applied ∙ ap (carried_of m (record { 0 = d.task })) h
 
-    module _ (y : Deed) (does : d.effect ≡ Does y) where
-      pub applied-does : apply_of m s ≡ record { machine = written m (record { 0 = d.task }) y.task y.write; answer = Replied y.reply; task = d.task }
+    module _ (y : Deed) (does : d.effect ≡ Ok y) where
+      pub applied-does : apply_of m s ≡ record { machine = written m (record { 0 = d.task }) y.task y.write; answer = Ok y.reply; task = d.task }
       unfolding carried_of
       applied-does = applied ∙ ap (carried_of m (record { 0 = d.task })) does
 

@@ -1,4 +1,5 @@
 -- An entry leaves every record that is in range in range, reached from a setup or not: so a run that tests once needs no test after that. Assumes nothing.
+use Rattle.std.specs.Prelude.{Result, Ok, Err}
 use Prim.Native.Nat.{ℕ, zero, suc, ◌+◌, ◌*◌, ◌-◌, ◌≤◌, ◌<◌}
 use mathlib.Core.Path.{◌≡◌, refl, sym, ap, ◌∙◌, subst}
 use mathlib.Core.Bool.{Bool, true, not, ◌&&◌}
@@ -19,17 +20,17 @@ use Rattle.tasks.specs.Records.{no_task, task_ok, onward, owning, probing}
 use Rattle.tasks.specs.declared.NodeNo.{NodeNo}
 use Rattle.answers.specs.declared.Reply.{Reply}
 use Rattle.answers.specs.declared.Reply.TheVariants.{Moved, Took, Lost, Released}
-use Rattle.steps.specs.declared.Counted.{Counted}
-use Rattle.steps.specs.declared.Counted.TheVariants.{To, Broken}
 use Rattle.steps.specs.Table.{after, free_after, recounted_of, raised_of, lowered_of, counting, leaving, Row, l1, l2, l3, l4, l5, s1, s2, s3, s5, s6, s7, r1, v1, rows, no_phase, effect_of}
 use Rattle.tables.specs.Tables.{sizes_ok, cell_ok, count_ok, task_ok_in, task_in}
 use Rattle.tables.proofs.Laws.{sizes_bounds}
 use Rattle.entries.specs.Entry.{entry_at, entry_of, nonzero, outside}
 use Rattle.entries.specs.Order.{linked_to, load_of, store_of, linked_call_of, call_of, order_of}
-use Rattle.cells.specs.Types.{Machine, TaskNo, Task, Seen, Write, Nothing, Point, Count, Value, Effect, Does, Refuses, Entry, EntryRead, Decision}
+use Rattle.cells.specs.Types.{Machine, TaskNo, Task, Seen, Write, Nothing, Point, Count, Value, Effect, Entry, Decision}
 use Rattle.cells.specs.Machine.{seen_of, cells_after, counts_after, free_by, left_by, carried_of, pool_ok, in_range, Long}
 use Rattle.cells.specs.Apply.{judged_of, decision_of, carried_by, apply_of}
 use Rattle.cells.proofs.Written.{long-written}
+use Rattle.answers.specs.declared.Refusal.{Refusal}
+use Rattle.answers.specs.declared.Refusal.TheVariants.{Damaged}
 
 -- the fields of a task's record in range for n cells and k nodes, but for its phase
 pub record Inside (n k : ℕ) (t : Task) : Type 0 where
@@ -59,8 +60,8 @@ Fit p k (Count v c f) = (c ≤ p + 1) × (f ≤ k)
 Fit p k (Value v y) = Unit {0}
 
 abbrev pub Fair : ℕ → ℕ → ℕ → Effect → Type 0
-Fair n p k (Does d) = (task_ok n k d.task ≡ true) × Fit p k d.write
-Fair n p k (Refuses r) = Unit {0}
+Fair n p k (Ok d) = (task_ok n k d.task ≡ true) × Fit p k d.write
+Fair n p k (Err r) = Unit {0}
 
 -- what holds of every row holds of the one that a number picks
 abbrev All : (Row → Type 0) → List Row → Type 0
@@ -77,15 +78,15 @@ module _ (n : ℕ) (t : Task) (s : Seen) (i : Inside n s.nodes t) (here : s.here
   abbrev Good : Effect → Type 0
   Good e = Fair n s.tasks s.nodes e
 
-  by_recounted : (R : Counted → Type 0) (v : NodeNo) (c d : ℕ) → R Broken → (free_after s.free c d ≤ s.nodes → R (To (Count v d (free_after s.free c d)) d)) → R (recounted_of s v c d)
+  by_recounted : (R : Counted → Type 0) (v : NodeNo) (c d : ℕ) → R (Err Damaged) → (free_after s.free c d ≤ s.nodes → R (Ok (Count v d (free_after s.free c d), d))) → R (recounted_of s v c d)
   unfolding recounted_of
   by_recounted R v c d b f = by_test R (ltb (s.free + bit (eqb d 0)) (bit (eqb c 0))) _ _ (λ q. b) (λ q. by_test R (ltb s.nodes (free_after s.free c d)) _ _ (λ w. b) (λ w. f (ltb-false _ _ w)))
 
-  by_lowered : (R : Counted → Type 0) (v : NodeNo) (c : ℕ) → R Broken → (free_after s.free c (c - 1) ≤ s.nodes → R (To (Count v (c - 1) (free_after s.free c (c - 1))) (c - 1))) → R (lowered_of s v c)
+  by_lowered : (R : Counted → Type 0) (v : NodeNo) (c : ℕ) → R (Err Damaged) → (free_after s.free c (c - 1) ≤ s.nodes → R (Ok (Count v (c - 1) (free_after s.free c (c - 1)), c - 1))) → R (lowered_of s v c)
   unfolding lowered_of
   by_lowered R v c b f = by_test R (eqb c 0) _ _ (λ q. b) (λ q. by_recounted R v c (c - 1) b f)
 
-  by_raised : (R : Counted → Type 0) (v : NodeNo) (c : ℕ) → R Broken → (c ≤ s.tasks → free_after s.free c (c + 1) ≤ s.nodes → R (To (Count v (c + 1) (free_after s.free c (c + 1))) (c + 1))) → R (raised_of s v c)
+  by_raised : (R : Counted → Type 0) (v : NodeNo) (c : ℕ) → R (Err Damaged) → (c ≤ s.tasks → free_after s.free c (c + 1) ≤ s.nodes → R (Ok (Count v (c + 1) (free_after s.free c (c + 1)), c + 1))) → R (raised_of s v c)
   unfolding raised_of
   by_raised R v c b f = by_test R (ltb s.tasks c) _ _ (λ q. b) (λ q. by_test R (eqb c 255) _ _ (λ w. b) (λ w. by_recounted R v c (c + 1) b (f (ltb-false _ _ q))))
 
@@ -257,8 +258,8 @@ module _ (m : Machine) (long : Long m) (ok : in_range m ≡ true) where
 
   left : (q : TaskNo) (x : Effect) → Fair m.n m.p m.k x → in_range (left_by m q x) ≡ true
   unfolding in_range
-  left q (Refuses r) f = ok
-  left q (Does d) f =
+  left q (Err r) f = ok
+  left q (Ok d) f =
       rw (
         tests.0,
         le-leb _ _ (free_left_lem d.write f.1),
@@ -281,7 +282,7 @@ module _ (m : Machine) (long : Long m) (ok : in_range m ≡ true) where
     abbrev Keeps : Decision → Type 0
     Keeps d = P (carried_by m d).machine
 
-    abbrev Reads : EntryRead → Type 0
+    abbrev Reads : Result Entry Refusal → Type 0
     Reads r = Keeps (judged_of m.n m.p (task_in m.tasks) (seen_of m) r)
 
     after-entry : (e : List ℕ) → P (apply_of m e).machine
@@ -300,5 +301,5 @@ module _ (m : Machine) (long : Long m) (ok : in_range m ≡ true) where
   keeps_lengths = after-entry Long long long_left
     where
       long_left : (q : TaskNo) (x : Effect) → Fair m.n m.p m.k x → Long (left_by m q x)
-      long_left q (Refuses r) f = long
-      long_left q (Does d) f = long-written m q d.task d.write long
+      long_left q (Err r) f = long
+      long_left q (Ok d) f = long-written m q d.task d.write long

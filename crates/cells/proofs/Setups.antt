@@ -1,4 +1,5 @@
 -- What holds of every setup: its machine is the fresh one of its own sizes, which fit the tables, and it uses no more bytes than there are. Assumes nothing.
+use Rattle.std.specs.Prelude.{Ok}
 use Prim.Native.Nat.{ℕ, ◌+◌, ◌-◌, ◌*◌, ◌≤◌, min}
 use mathlib.Core.Path.{◌≡◌, refl, subst}
 use mathlib.Core.Bool.{Bool, true, false, not}
@@ -13,7 +14,7 @@ use Rattle.wire.specs.Bytes.{setup_mark, marked}
 use Rattle.tasks.specs.Records.{node_no, no_task, idle_owning}
 use Rattle.tables.specs.Tables.{sizes_ok, value_given}
 use Rattle.tables.proofs.Laws.{sizes_bounds}
-use Rattle.cells.specs.Types.{Machine, Task, SetUp, Head, Refusal, Sizes, NotZero, WrongMark, TooShort, Ready}
+use Rattle.cells.specs.Types.{Machine, Task, SetUp, Head, Refusal, Sizes, NotZero, WrongMark, TooShort}
 use Rattle.cells.specs.Machine.{Long}
 use Rattle.cells.specs.Setup.{fresh_of, refused_setup, setup_of, head_of}
 use Rattle.cells.proofs.Fresh.{fresh-long}
@@ -25,7 +26,7 @@ Fits h = (h.n ≤ 64) × (h.p ≤ 16) × (h.n + 2 * h.p ≤ h.k)
 module _ (s : List ℕ) where
   -- the one setup that is not refused
   abbrev pub accepted : SetUp
-  accepted = record { machine = fresh_of (get_or s 2 0) (get_or s 3 0) (get_or s 4 0) s; answer = Ready (6 + 4 * get_or s 2 0) }
+  accepted = record { machine = fresh_of (get_or s 2 0) (get_or s 3 0) (get_or s 4 0) s; answer = Ok (6 + 4 * get_or s 2 0) }
 
   -- the tests in their order, each true if it refuses
   abbrev pub no_head : Bool
@@ -108,8 +109,8 @@ module _ (s : List ℕ) where
         let np : min (h.n + h.p) 128 ≡ h.n + h.p = omega (arith, head_fits.0, head_fits.1) in
         rw (hc, hv, hn, ht, n64, n128, np, is) setup-fresh
 
-  pub setup_uses : (u : ℕ) → (setup_of s).answer ≡ Ready u → u ≤ length s
+  pub setup_uses : (u : ℕ) → (setup_of s).answer ≡ Ok u → u ≤ length s
   setup_uses =
-      refused_or_ready (λ x. (u : ℕ) → x.answer ≡ Ready u → u ≤ length s)
+      refused_or_ready (λ x. (u : ℕ) → x.answer ≡ Ok u → u ≤ length s)
       (λ r u h. let z : ◌≡◌ {A = ℕ} 0 1 = cc in absurd (omega arith))
       (λ d e u h. let used : 6 + 4 * get_or s 2 0 ≡ u = cc in subst (λ (k : ℕ). k ≤ length s) used (ltb-false (length s) (6 + 4 * get_or s 2 0) e))

@@ -1,4 +1,5 @@
 -- An entry of a record that is in range, said without the range test: so a run that tests once may leave it out. Assumes nothing.
+use Rattle.std.specs.Prelude.{Ok, Err}
 use Prim.Native.Nat.{ℕ, ◌<◌, min}
 use native.Mathlib.Omega.{arith}
 use mathlib.Core.Path.{◌≡◌, sym, ap, ◌∙◌}
@@ -11,7 +12,7 @@ use Rattle.tasks.specs.Records.{no_task}
 use Rattle.tables.specs.Tables.{task_ok_in}
 use Rattle.entries.specs.Entry.{entry_at, entry_of}
 use Rattle.entries.specs.Order.{order_of}
-use Rattle.cells.specs.Types.{Machine, Task, Deed, Effect, Does, Refusal, Whole, Unread}
+use Rattle.cells.specs.Types.{Machine, Task, Deed, Effect, Refusal}
 use Rattle.cells.specs.Machine.{seen_of, refused_by, carried_of, tables_ok, in_range}
 use Rattle.cells.specs.Apply.{judged_of, decision_of, apply_of}
 use Rattle.cells.proofs.Decide.{order_same, order_does, few_tasks, range_tests}
@@ -23,7 +24,7 @@ module _ (m : Machine) (ok : in_range m ≡ true) (x : List ℕ) where
       omega (arith, few_tasks m t.0)
 
   -- bytes that are no entry
-  pub unread_applied : (y : Refusal) → entry_of x ≡ Unread y → apply_of m x ≡ refused_by m 0 y
+  pub unread_applied : (y : Refusal) → entry_of x ≡ Err y → apply_of m x ≡ refused_by m 0 y
   unfolding apply_of decision_of judged_of carried_of
   unread_applied y h = rw (ok, h)
 
@@ -32,10 +33,10 @@ module _ (m : Machine) (ok : in_range m ≡ true) (x : List ℕ) where
     abbrev pub ordered : Effect
     ordered = order_of m.n m.p (entry_at x) t (seen_of m t)
 
-    pub order_applied : entry_of x ≡ Whole (entry_at x) → apply_of m x ≡ carried_of m (record { 0 = get_or x 2 0 }) ordered
+    pub order_applied : entry_of x ≡ Ok (entry_at x) → apply_of m x ≡ carried_of m (record { 0 = get_or x 2 0 }) ordered
     unfolding apply_of decision_of judged_of
     order_applied h = rw (ok, h) (ap (carried_of m (record { 0 = get_or x 2 0 })) (sym (order_same m (entry_at x) t (omega (arith, few)) here)))
 
     -- an accepted one has such a task
-    pub its_own : (d : Deed) → ordered ≡ Does d → min (get_or x 2 0) 15 ≡ get_or x 2 0
+    pub its_own : (d : Deed) → ordered ≡ Ok d → min (get_or x 2 0) 15 ≡ get_or x 2 0
     its_own d h = let below = order_does m.n m.p (entry_at x) t (seen_of m t) d h in omega (arith, few)

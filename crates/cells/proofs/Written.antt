@@ -1,15 +1,16 @@
 -- A task's record, the one place and the number of free nodes, written where they lie, give the machine after the step. Assumes nothing.
+use Rattle.std.specs.Prelude.{Ok, Err}
 use Prim.Native.Nat.{ℕ}
 use mathlib.Core.Path.{◌≡◌, refl, ap, ◌∙◌}
 use mathlib.Core.List.{List}
 use lib.ListN.{length, get_or, set, length-set}
 use lib.Seq.{set-get_or}
-use Rattle.answers.specs.declared.Answer.{Answer}
+use Rattle.answers.specs.Types.{Answer}
 use Rattle.tasks.specs.Records.{no_task}
 use Rattle.steps.specs.Table.{answer_of}
 use Rattle.tables.specs.Tables.{put_in}
 use Rattle.tables.proofs.Laws.{put-set}
-use Rattle.cells.specs.Types.{Machine, TaskNo, Task, Write, Nothing, Point, Count, Value, Deed, Effect, Does, Refuses, Replied}
+use Rattle.cells.specs.Types.{Machine, TaskNo, Task, Write, Nothing, Point, Count, Value, Deed, Effect}
 use Rattle.cells.specs.Machine.{cells_by, values_by, counts_by, free_by, task_by, write_by, cells_after, values_after, counts_after, written, carried_of, Long}
 
 cells-put : (m : Machine) (w : Write) → length m.cells ≡ 64 → cells_by (put_in 64) w m.cells ≡ cells_after m w
@@ -36,14 +37,14 @@ put_written m long w u j i e cs vs ns f hc hv hn hf =
     rw (hc ∙ cells-put m w long.cells, hv ∙ values-put m w long.values, hn ∙ counts-put m w long.counts, hf, e)
 
 -- the same of any effect: a refusal puts the task's record back where it stood, and so leaves all as it was
-pub put_carried : (m : Machine) → Long m → (e : Effect) (j i : ℕ) → ((y : Deed) → e ≡ Does y → j ≡ i) → (t : Task) → t ≡ get_or m.tasks j no_task
+pub put_carried : (m : Machine) → Long m → (e : Effect) (j i : ℕ) → ((y : Deed) → e ≡ Ok y → j ≡ i) → (t : Task) → t ≡ get_or m.tasks j no_task
     → (u : Task) → u ≡ task_by e t → (a : Answer) → a ≡ answer_of e
     → (cs vs ns : List ℕ) (f : ℕ) → cs ≡ cells_by (put_in 64) (write_by e) m.cells → vs ≡ values_by (put_in 128) (write_by e) m.values → ns ≡ counts_by (put_in 128) (write_by e) m.counts → f ≡ free_by (write_by e) m.free
     → record { machine = record { n = m.n; p = m.p; k = m.k; free = f; cells = cs; values = vs; counts = ns; tasks = set m.tasks j u }; answer = a; task = i } ≡ carried_of m (record { 0 = i }) e
 unfolding carried_of
-put_carried m long (Refuses r) j i own t is u hu a ha cs vs ns f hc hv hn hf = rw (hc, hv, hn, hf, ha, hu, is, set-get_or m.tasks j no_task)
-put_carried m long (Does d) j i own t is u hu a ha cs vs ns f hc hv hn hf =
-    rw (hu, ha) (ap (λ (z : Machine). record { machine = z; answer = Replied d.reply; task = i }) (put_written m long d.write d.task j i (own d refl) cs vs ns f hc hv hn hf))
+put_carried m long (Err r) j i own t is u hu a ha cs vs ns f hc hv hn hf = rw (hc, hv, hn, hf, ha, hu, is, set-get_or m.tasks j no_task)
+put_carried m long (Ok d) j i own t is u hu a ha cs vs ns f hc hv hn hf =
+    rw (hu, ha) (ap (λ (z : Machine). record { machine = z; answer = Ok d.reply; task = i }) (put_written m long d.write d.task j i (own d refl) cs vs ns f hc hv hn hf))
 
 -- no write changes a table's length
 cells-after : (m : Machine) (w : Write) → length (cells_after m w) ≡ length m.cells

@@ -1,20 +1,22 @@
 -- One schedule entry: it is decided, and then carried out.
-use Rattle.std.specs.Prelude.{ℕ, Bool, cond, not, ◌&&◌, List}
+use Rattle.std.specs.Prelude.{ℕ, Bool, cond, not, ◌&&◌, List, Result, Ok, Err}
 use Rattle.tables.specs.Tables.{task_in}
 use Rattle.entries.specs.Entry.{entry_of}
 use Rattle.entries.specs.Order.{order_of}
-use Rattle.cells.specs.Types.{Machine, Applied, Decision, TaskNo, Task, Seen, Refuses, Damaged, EntryRead, Whole, Unread}
+use Rattle.cells.specs.Types.{Machine, Applied, Decision, TaskNo, Task, Seen, Damaged}
 use Rattle.cells.specs.Machine.{seen_in, seen_of, carried_of, tables_ok, in_range}
+use Rattle.entries.specs.declared.Entry.{Entry}
+use Rattle.answers.specs.declared.Refusal.{Refusal}
 
 -- 20, 19: there is no task byte yet; else 12, 13, 15, 14, 16 or 17, 22 (the step) with the entry's task byte, or what the entry does.
 -- `at` finds a task's record, and `sees` what a step of it may look at
-unfoldable pub judged_of : ℕ → ℕ → (TaskNo → Task) → (Task → Seen) → EntryRead → Decision
-judged_of n p at sees (Unread r) = record { task = 0; effect = Refuses r }
-judged_of n p at sees (Whole e) = let t = at e.task in record { task = e.task.0; effect = order_of n p e t (sees t) }
+unfoldable pub judged_of : ℕ → ℕ → (TaskNo → Task) → (Task → Seen) → Result Entry Refusal → Decision
+judged_of n p at sees (Err r) = record { task = 0; effect = Err r }
+judged_of n p at sees (Ok e) = let t = at e.task in record { task = e.task.0; effect = order_of n p e t (sees t) }
 
 -- 22 (ranges) comes first
 abbrev pub guarded : Bool → Decision → Decision
-guarded ok d = cond (not ok) (record { task = 0; effect = Refuses Damaged }) d
+guarded ok d = cond (not ok) (record { task = 0; effect = Err Damaged }) d
 
 -- over lent tables: t is the record of the entry's task, and `inside` says whether the task records are in range
 unfoldable pub decided_of : ℕ → ℕ → ℕ → ℕ → List ℕ → List ℕ → List ℕ → Task → Bool → List ℕ → Decision

@@ -1,9 +1,9 @@
 -- The machine record: what a step sees of it, what a step leaves of it, and its ranges.
-use Rattle.std.specs.Prelude.{ℕ, Bool, ◌&&◌, ◌≡◌, List, leb, length, set}
+use Rattle.std.specs.Prelude.{ℕ, Bool, ◌&&◌, ◌≡◌, List, leb, length, set, Ok, Err}
 use Rattle.tallies.specs.Lists.{every}
 use Rattle.steps.specs.Table.{answer_of}
 use Rattle.tables.specs.Tables.{node_in, count_in, value_in, sizes_ok, cell_ok, count_ok, task_ok_in}
-use Rattle.cells.specs.Types.{Machine, Applied, TaskNo, Task, Seen, Write, Nothing, Point, Count, Value, Effect, Does, Refuses, Refusal, Refused}
+use Rattle.cells.specs.Types.{Machine, Applied, TaskNo, Task, Seen, Write, Nothing, Point, Count, Value, Effect, Refusal}
 
 -- what a step of t sees: the node of x, the counts of m and of the cursor's node, the value of m, P, K and how many nodes are free
 abbrev pub seen_in : List ℕ → List ℕ → List ℕ → Task → ℕ → ℕ → ℕ → Seen
@@ -49,12 +49,12 @@ free_by (Value v y) free = free
 
 -- the record of t after an effect, and the one place that it writes: a refusal leaves the one and has no other
 abbrev pub task_by : Effect → Task → Task
-task_by (Refuses r) t = t
-task_by (Does d) t = d.task
+task_by (Err r) t = t
+task_by (Ok d) t = d.task
 
 abbrev pub write_by : Effect → Write
-write_by (Refuses r) = Nothing
-write_by (Does d) = d.write
+write_by (Err r) = Nothing
+write_by (Ok d) = d.write
 
 -- each table of a machine after a write
 abbrev pub cells_after : Machine → Write → List ℕ
@@ -82,12 +82,12 @@ written m p t w =
 
 -- a refusal leaves the record unchanged; i is the task byte of its reply
 abbrev pub refused_by : Machine → ℕ → Refusal → Applied
-refused_by m i r = record { machine = m; answer = Refused r; task = i }
+refused_by m i r = record { machine = m; answer = Err r; task = i }
 
 -- an effect of task p leaves the record as it was, or written
 abbrev pub left_by : Machine → TaskNo → Effect → Machine
-left_by m p (Refuses r) = m
-left_by m p (Does d) = written m p d.task d.write
+left_by m p (Err r) = m
+left_by m p (Ok d) = written m p d.task d.write
 
 -- it is carried out, and answered
 unfoldable pub carried_of : Machine → TaskNo → Effect → Applied

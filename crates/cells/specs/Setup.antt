@@ -1,11 +1,11 @@
 -- Setup from bytes: the mark, N, P, K, a zero byte, then N values of 4 bytes.
-use Rattle.std.specs.Prelude.{ℕ, ◌+◌, ◌-◌, ◌*◌, cond, not, List, eqb, ltb, length, get_or, replicate}
+use Rattle.std.specs.Prelude.{ℕ, ◌+◌, ◌-◌, ◌*◌, cond, not, List, eqb, ltb, length, get_or, replicate, Result, Ok, Err}
 use Rattle.tallies.specs.Lists.{fill_to}
 use Rattle.wire.specs.Bytes.{setup_mark, marked}
 use Rattle.answers.specs.Numbers.{refusal_number}
 use Rattle.tasks.specs.Records.{node_no, no_task, idle_owning}
 use Rattle.tables.specs.Tables.{sizes_ok, value_given}
-use Rattle.cells.specs.Types.{Machine, SetUp, Head, Laid, SetupAnswer, Ready, NotSetUp, Refusal, Sizes, NotZero, WrongMark, TooShort}
+use Rattle.cells.specs.Types.{Machine, SetUp, Head, Laid, Refusal, Sizes, NotZero, WrongMark, TooShort}
 
 -- all zero
 abbrev pub blank_of : Machine
@@ -37,7 +37,7 @@ fresh_of n p k s =
     }
 
 abbrev pub refused_setup : Refusal → SetUp
-refused_setup r = record { machine = blank_of; answer = NotSetUp r }
+refused_setup r = record { machine = blank_of; answer = Err r }
 
 unfoldable pub setup_of : List ℕ → SetUp
 setup_of s =
@@ -46,7 +46,7 @@ setup_of s =
     (cond (not (eqb (get_or s 5 0) 0)) (refused_setup NotZero)  -- 15
     (cond (not (sizes_ok (get_or s 2 0) (get_or s 3 0) (get_or s 4 0))) (refused_setup Sizes)  -- 11
     (cond (ltb (length s) (6 + 4 * get_or s 2 0)) (refused_setup TooShort)  -- 20
-    (record { machine = fresh_of (get_or s 2 0) (get_or s 3 0) (get_or s 4 0) s; answer = Ready (6 + 4 * get_or s 2 0) })))))
+    (record { machine = fresh_of (get_or s 2 0) (get_or s 3 0) (get_or s 4 0) s; answer = Ok (6 + 4 * get_or s 2 0) })))))
 
 -- a setup without its machine: the sizes and the answer
 abbrev pub head_of : SetUp → Head
@@ -65,11 +65,11 @@ laid_of x =
     }
 
 -- document 01's number of a setup's answer; an accepted one has none, here 0
-abbrev pub setup_number : SetupAnswer → ℕ
-setup_number (Ready used) = 0
-setup_number (NotSetUp r) = refusal_number r
+abbrev pub setup_number : Result ℕ Refusal → ℕ
+setup_number (Ok used) = 0
+setup_number (Err r) = refusal_number r
 
 -- the bytes that a setup used
-abbrev pub setup_bytes : SetupAnswer → ℕ
-setup_bytes (Ready used) = used
-setup_bytes (NotSetUp r) = 0
+abbrev pub setup_bytes : Result ℕ Refusal → ℕ
+setup_bytes (Ok used) = used
+setup_bytes (Err r) = 0

@@ -15,38 +15,25 @@ pub(crate) fn pool_ok(n: u8, p: u8, k: u8, free: u8) -> bool
     free <= k
 }
 
-// The answer to the free-nodes question; the refusal is number 22.
-#[derive(Clone, Copy)]
-pub enum FreeCount {
-    Free(u8),
-    Refused,
-}
-
 // The free-nodes question, handed four numbers of a record and none of its tables: it may be asked after every entry.
 #[tactic(auto, unfolding(crate::specs::Free::free_of))]
-pub fn free_nodes(n: u8, p: u8, k: u8, free: u8) -> FreeCount
+pub fn free_nodes(n: u8, p: u8, k: u8, free: u8) -> Result<u8, Refusal>
     ensures { result ≡ free_of n p k free }
 {
     if !pool_ok(n, p, k, free) {
-        return FreeCount::Refused;
+        return Err(Refusal::Damaged);
     }
-    FreeCount::Free(free)
+    Ok(free)
 }
 
-pub fn free_number(f: FreeCount) -> u8
+pub fn free_number(f: Result<u8, Refusal>) -> u8
     ensures { result ≡ free_number f }
 {
-    match f {
-        FreeCount::Free(_) => 0,
-        FreeCount::Refused => answers::refusal_number(Refusal::Damaged),
-    }
+    answers::refusal_or_0(f)
 }
 
-pub fn free_value(f: FreeCount) -> u8
+pub fn free_value(f: Result<u8, Refusal>) -> u8
     ensures { result ≡ free_value f }
 {
-    match f {
-        FreeCount::Free(n) => n,
-        FreeCount::Refused => 0,
-    }
+    f.unwrap_or(0)
 }

@@ -13,13 +13,12 @@ ghost use Rattle.cells.specs.Apply.{decided_of, apply_of};
 ghost use Rattle.cells.specs.Setup.{setup_of, setup_number, setup_bytes};
 
 use answers::{Answer, Refusal};
-use entries::EntryRead;
 use steps::{Effect, Seen, Write};
 use tables::{count_at, node_at, put_count, put_node, put_value, value_at};
-use tasks::{HolderCount, NodeNo, Task, TaskNo};
+use tasks::{NodeNo, Task, TaskNo};
 
 // N, P, K and the number of free nodes; each cell's node; each node's value and count; the task records. What stands past N, P and K makes no difference.
-#[derive(Clone, Copy)]
+#[derive(Clone, Copy, PartialEq, Eq)]
 pub struct Machine {
     pub n: u8,
     pub p: u8,
@@ -39,17 +38,11 @@ pub struct Applied {
     pub task: u8,
 }
 
-// An accepted setup says how many bytes it used; later bytes belong to the schedule.
-#[derive(Clone, Copy)]
-pub enum SetupAnswer {
-    Ready(usize),
-    Refused(Refusal),
-}
-
+// A machine beside a setup's answer: how many bytes it used, as later bytes belong to the schedule.
 #[derive(Clone, Copy)]
 pub struct SetUp {
     pub machine: Machine,
-    pub answer: SetupAnswer,
+    pub answer: Result<usize, Refusal>,
 }
 
 impl Machine {
@@ -79,22 +72,16 @@ impl Machine {
     }
 }
 
-pub fn setup_number(a: SetupAnswer) -> u8
+pub fn setup_number(a: Result<usize, Refusal>) -> u8
     ensures { result ≡ setup_number a }
 {
-    match a {
-        SetupAnswer::Ready(_) => 0,
-        SetupAnswer::Refused(r) => answers::refusal_number(r),
-    }
+    answers::refusal_or_0(a)
 }
 
-pub fn setup_bytes(a: SetupAnswer) -> usize
+pub fn setup_bytes(a: Result<usize, Refusal>) -> usize
     ensures { result ≡ setup_bytes a }
 {
-    match a {
-        SetupAnswer::Ready(used) => used,
-        SetupAnswer::Refused(_) => 0,
-    }
+    a.unwrap_or(0)
 }
 
 // What an entry does to its task, and the task byte of its reply.
@@ -163,21 +150,21 @@ fn decided<'a>(
     if !tables_ok(n, p, k, free, cells, counts) {
         return Decision {
             task: 0,
-            effect: Effect::Refuses(Refusal::Damaged),
+            effect: Err(Refusal::Damaged),
         };
     }
     if !inside {
         return Decision {
             task: 0,
-            effect: Effect::Refuses(Refusal::Damaged),
+            effect: Err(Refusal::Damaged),
         };
     }
     match entries::read_entry(s) {
-        EntryRead::Refused(r) => Decision {
+        Err(r) => Decision {
             task: 0,
-            effect: Effect::Refuses(r),
+            effect: Err(r),
         },
-        EntryRead::Whole(e) => {
+        Ok(e) => {
             let q = e.task;
             let i = q.0;
             let effect = entries::order(n, p, e, t, seen(cells, values, counts, t, p, k, free));
@@ -242,8 +229,8 @@ fn task_by(e: Effect, t: Task) -> Task
     ensures { result ≡ task_by e t }
 {
     match e {
-        Effect::Refuses(_) => t,
-        Effect::Does(d) => d.task,
+        Err(_) => t,
+        Ok(d) => d.task,
     }
 }
 
@@ -251,8 +238,8 @@ fn write_by(e: Effect) -> Write
     ensures { result ≡ write_by e }
 {
     match e {
-        Effect::Refuses(_) => Write::Nothing,
-        Effect::Does(d) => d.write,
+        Err(_) => Write::Nothing,
+        Ok(d) => d.write,
     }
 }
 
@@ -260,10 +247,10 @@ fn answer_by(e: Effect) -> Answer
     ensures { result ≡ answer_of e }
 {
     match e {
-        Effect::Refuses(x) => Answer::Refused(x),
-        Effect::Does(d) => {
+        Err(x) => Err(x),
+        Ok(d) => {
             let y = d.reply;
-            Answer::Replied(y)
+            Ok(y)
         }
     }
 }
@@ -327,7 +314,7 @@ impl Machine {
     }
 
     // The holders question, asked of the record's own tasks.
-    pub fn holders(self, v: NodeNo) -> HolderCount
+    pub fn holders(self, v: NodeNo) -> Option<usize>
         ensures { result ≡ held_among self.tasks self.p v }
     {
         let ts = self.tasks;

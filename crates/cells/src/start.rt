@@ -4,7 +4,6 @@ ghost use Rattle.tallies.specs.Lists.{fill_to};
 ghost use Rattle.tasks.specs.Records.{node_no, no_task, idle_owning};
 ghost use Rattle.cells.specs.Setup.{refused_setup, setup_of, head_of, laid_of};
 
-use crate::SetupAnswer;
 use answers::Refusal;
 use tasks::{NodeNo, Task, TaskNo};
 
@@ -14,7 +13,7 @@ pub struct Head {
     pub n: u8,
     pub p: u8,
     pub k: u8,
-    pub answer: SetupAnswer,
+    pub answer: Result<usize, Refusal>,
 }
 
 // A setup's machine but for its three tables, and the answer.
@@ -25,7 +24,7 @@ pub struct Laid {
     pub k: u8,
     pub free: u8,
     pub tasks: [Task; 16],
-    pub answer: SetupAnswer,
+    pub answer: Result<usize, Refusal>,
 }
 
 // Task i owns node n+i.
@@ -59,7 +58,7 @@ fn refused_head(r: Refusal) -> Head
         n: 0,
         p: 0,
         k: 0,
-        answer: SetupAnswer::Refused(r),
+        answer: Err(r),
     }
 }
 
@@ -92,7 +91,7 @@ pub fn read_head(s: &[u8]) -> Head
         n: n,
         p: p,
         k: k,
-        answer: SetupAnswer::Ready(used),
+        answer: Ok(used),
     }
 }
 

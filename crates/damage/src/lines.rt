@@ -1,6 +1,5 @@
 // The parts of a line. They stand apart from the records: a text in a function that has a record makes its check long.
-use answers::Answer;
-use cells::free::FreeCount;
+use answers::{Answer, Refusal};
 use runs::Report;
 use std::io;
 
@@ -94,7 +93,7 @@ pub(crate) fn report(rt: &impl Print, r: Report) -> io::Result<()> {
 }
 
 // The answer to the free-nodes question: number, value.
-pub(crate) fn question(rt: &impl Print, f: FreeCount) -> io::Result<()> {
+pub(crate) fn question(rt: &impl Print, f: Result<u8, Refusal>) -> io::Result<()> {
     print!(rt; ": question")?;
     number(rt, cells::free::free_number(f) as u64)?;
     number(rt, cells::free::free_value(f) as u64)?;

@@ -1,4 +1,5 @@
 -- Reading on from a place: what is left gives the whole, and a value that is cut off at 2 ^ 32 stays there. Assumes nothing.
+use Rattle.std.specs.Prelude.{Some, None}
 use Prim.Native.Nat.{ℕ, suc, ◌+◌, ◌*◌, ◌-◌, ◌≤◌, ◌<◌}
 use native.Mathlib.Nat.{le_refl, min-eq_left, min-eq_right, add-zero, not-suc-le-zero}
 use native.Mathlib.Omega.{arith}
@@ -10,7 +11,6 @@ use lib.ListN.{length, get_or, drop, drop_of_length-le}
 use lib.Seq.{drop-cons, get_or-drop}
 use borrow.Author.Tests.{le-leb, lt-leb, ne_eqb}
 use Rattle.tallies.proofs.Lists.{either}
-use Rattle.digits.specs.Types.{Number, NoNumber}
 use Rattle.digits.specs.Decimal.{is_digit, all_digits, is_number, onward, value_of, lead, capped, digits_at, number_at}
 
 onward_grows : (w : List ℕ) (v : ℕ) → v ≤ onward v w
@@ -101,18 +101,18 @@ module _ (s : List ℕ) (at : ℕ) where
   abbrev w : List ℕ
   w = lead (drop at s)
 
-  pub number-none : length w ≡ 0 → number_at s at ≡ NoNumber
+  pub number-none : length w ≡ 0 → number_at s at ≡ None
   unfolding number_at is_number
   number-none h = rw (h, and-false)
 
-  pub number_one : length w ≡ 1 → number_at s at ≡ Number (digits_at s at).value (digits_at s at).end
+  pub number_one : length w ≡ 1 → number_at s at ≡ Some ((digits_at s at).value, (digits_at s at).end)
   unfolding number_at is_number
   number_one h = rw (lead_digits (drop at s), h)
 
-  pub number-zero : 1 < length w → get_or s at 0 ≡ 0x30 → number_at s at ≡ NoNumber
+  pub number-zero : 1 < length w → get_or s at 0 ≡ 0x30 → number_at s at ≡ None
   unfolding number_at is_number
   number-zero h z = rw (ne_eqb (length w) 1 (λ e. omega (arith, h, e)), lead_first s at (omega arith), z, and-false)
 
-  pub number_more : 1 < length w → (get_or s at 0 ≡ 0x30 → ⊥) → number_at s at ≡ Number (digits_at s at).value (digits_at s at).end
+  pub number_more : 1 < length w → (get_or s at 0 ≡ 0x30 → ⊥) → number_at s at ≡ Some ((digits_at s at).value, (digits_at s at).end)
   unfolding number_at is_number
   number_more h z = rw (lead_digits (drop at s), le-leb 1 (length w) (omega arith), lead_first s at (omega arith), ne_eqb (get_or s at 0) 0x30 z, or-true)

@@ -1,6 +1,6 @@
 -- Decimal numbers in text: which texts are one and of what value, the text of a value, and a number read from or written into a longer text.
-use Rattle.std.specs.Prelude.{ℕ, zero, suc, ◌+◌, ◌*◌, ◌-◌, ◌/◌, ◌%◌, min, Bool, true, cond, not, ◌&&◌, ◌||◌, List, [], ◌∷◌, eqb, leb, ltb, length, get_or, drop}
-use Rattle.digits.specs.Types.{NumberRead, Number, NoNumber, Digits}
+use Rattle.std.specs.Prelude.{ℕ, zero, suc, ◌+◌, ◌*◌, ◌-◌, ◌/◌, ◌%◌, min, Bool, true, cond, not, ◌&&◌, ◌||◌, List, [], ◌∷◌, eqb, leb, ltb, length, get_or, drop, Option, Some, None}
+use Rattle.digits.specs.Types.{Digits}
 
 -- the digits 0 to 9, as bytes
 abbrev pub is_digit : ℕ → Bool
@@ -47,8 +47,8 @@ abbrev pub digits_at : List ℕ → ℕ → Digits
 digits_at s at = record { value = capped (value_of (lead (drop at s))); end = at + length (lead (drop at s)) }
 
 -- the same where they are a number
-unfoldable pub number_at : List ℕ → ℕ → NumberRead
-number_at s at = cond (is_number (lead (drop at s))) (Number (digits_at s at).value (digits_at s at).end) NoNumber
+unfoldable pub number_at : List ℕ → ℕ → Option (ℕ × ℕ)
+number_at s at = cond (is_number (lead (drop at s))) (Some ((digits_at s at).value, (digits_at s at).end)) None
 
 -- where the text of n ends that is written into o from place `at` on; `at` where there is no room for it
 unfoldable pub number_end : List ℕ → ℕ → ℕ → ℕ

@@ -5,14 +5,7 @@ ghost use Rattle.std.specs.Prelude.{◌≡◌, true, ◌+◌, ◌*◌, ◌-◌, 
 ghost use Rattle.wire.specs.Bytes.{overlaid, fitted};
 ghost use Rattle.digits.specs.Decimal.{is_digit, decimal, digits_at, number_at, number_end};
 
-// A number's value, or 2 ^ 32 for a greater one, and the place behind its last digit.
-#[derive(Clone, Copy)]
-pub enum NumberRead {
-    Number(u64, usize),
-    NoNumber,
-}
-
-// The same of digits that may be none, or have zeros in front.
+// The value of digits, or 2 ^ 32 for a greater one, and the place behind the last. They may be none, or have zeros in front.
 #[derive(Clone, Copy)]
 struct Digits {
     value: u64,
@@ -40,46 +33,38 @@ fn digits_at(s: &[u8], at: usize) -> Digits
     while end < n {
         let b = s[end];
         if b < b'0' {
-            return Digits {
-                value: value,
-                end: end,
-            };
+            return Digits { value, end };
         }
         if b'9' < b {
-            return Digits {
-                value: value,
-                end: end,
-            };
+            return Digits { value, end };
         }
         value = with_digit(value, b);
         end += 1;
     }
-    Digits {
-        value: value,
-        end: end,
-    }
+    Digits { value, end }
 }
 
-pub fn number_at(s: &[u8], at: usize) -> NumberRead
+// The same of the digits of a number.
+pub fn number_at(s: &[u8], at: usize) -> Option<(u64, usize)>
     ensures { result ≡ number_at s.now at }
 {
     if s.len() <= at {
-        return NumberRead::NoNumber;
+        return None;
     }
     let d = digits_at(s, at);
     let value = d.value;
     let end = d.end;
     if end == at {
-        return NumberRead::NoNumber;
+        return None;
     }
     if end == at + 1 {
-        return NumberRead::Number(value, end);
+        return Some((value, end));
     }
     // a zero in front of another digit
     if s[at] == b'0' {
-        return NumberRead::NoNumber;
+        return None;
     }
-    NumberRead::Number(value, end)
+    Some((value, end))
 }
 
 // How many digits n has.

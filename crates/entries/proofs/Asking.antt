@@ -1,4 +1,5 @@
 -- What is asked, done, is what `order_of` has; and what is asked by an entry of known parts, test by test. Assumes nothing.
+use Rattle.std.specs.Prelude.{Result, Ok, Err}
 use Prim.Native.Nat.{ℕ, ◌≤◌, ◌<◌}
 use mathlib.Core.Path.{◌≡◌, refl, sym, ap, ◌∙◌}
 use mathlib.Core.Bool.{Bool, true, false, cond}
@@ -6,10 +7,11 @@ use mathlib.Core.Logic.{◌≢◌}
 use lib.Dec.{eqb, leb, ltb}
 use borrow.Author.Tests.{le-leb, lt-leb, lt-ltb, le-ltb, eq-eqb, ne_eqb}
 use Rattle.steps.specs.Table.{effect_of}
-use Rattle.entries.specs.Types.{TaskNo, CellNo, Task, Release, Validate, NoTask, NoKind, NoCell, NotZero, Seen, Refuses, Entry, Asked, ToGo, ToLoad, ToStore, ToRelease, ToValidate, Faulty}
+use Rattle.entries.specs.Types.{TaskNo, CellNo, Task, Release, Validate, NoTask, NoKind, NoCell, NotZero, Seen, Entry, Asked, ToGo, ToLoad, ToStore, ToRelease, ToValidate}
 use Rattle.entries.specs.Entry.{nonzero, outside}
 use Rattle.entries.specs.Order.{load_of, store_of, linked_call_of, call_of, order_of}
 use Rattle.entries.specs.Asking.{entry_by, plain_of, asked_of, obeyed}
+use Rattle.answers.specs.declared.Refusal.{Refusal}
 
 pub order_asked : (n p : ℕ) (e : Entry) (t : Task) (s : Seen) → order_of n p e t s ≡ obeyed (asked_of n p e) t s
 unfolding order_of call_of asked_of
@@ -17,8 +19,8 @@ order_asked n p e t s = both (leb p e.task.0) (ltb 4 e.kind) (nonzero e) (outsid
   where
     -- both go by the same tests
     both : (a b c d k0 k1 k2 k3 : Bool)
-        → cond a (Refuses NoTask) (cond b (Refuses NoKind) (cond c (Refuses NotZero) (cond d (Refuses NoCell) (cond k0 (effect_of t s) (cond k1 (load_of t e.cell) (cond k2 (store_of t e.cell e.value) (cond k3 (linked_call_of t Release) (linked_call_of t Validate))))))))
-        ≡ obeyed (cond a (Faulty NoTask) (cond b (Faulty NoKind) (cond c (Faulty NotZero) (cond d (Faulty NoCell) (cond k0 ToGo (cond k1 (ToLoad e.cell) (cond k2 (ToStore e.cell e.value) (cond k3 ToRelease ToValidate)))))))) t s
+        → cond a (Err NoTask) (cond b (Err NoKind) (cond c (Err NotZero) (cond d (Err NoCell) (cond k0 (effect_of t s) (cond k1 (load_of t e.cell) (cond k2 (store_of t e.cell e.value) (cond k3 (linked_call_of t Release) (linked_call_of t Validate))))))))
+        ≡ obeyed (cond a (Err NoTask) (cond b (Err NoKind) (cond c (Err NotZero) (cond d (Err NoCell) (cond k0 (Ok ToGo) (cond k1 (Ok (ToLoad e.cell)) (cond k2 (Ok (ToStore e.cell e.value)) (cond k3 (Ok ToRelease) (Ok ToValidate))))))))) t s
     both true b c d k0 k1 k2 k3 = refl
     both false true c d k0 k1 k2 k3 = refl
     both false false true d k0 k1 k2 k3 = refl
@@ -30,57 +32,62 @@ order_asked n p e t s = both (leb p e.task.0) (ltb 4 e.kind) (nonzero e) (outsid
     both false false false false false false false false = refl
 
 -- a is what is asked, and b is what it was found to be
-pub asked_done : (n p : ℕ) (e : Entry) (t : Task) (s : Seen) (a : Asked) → a ≡ asked_of n p e → (b : Asked) → a ≡ b → obeyed b t s ≡ order_of n p e t s
-asked_done n p e t s a q b r = ap (λ (x : Asked). obeyed x t s) (sym r ∙ q) ∙ sym (order_asked n p e t s)
+pub asked_done : (n p : ℕ) (e : Entry) (t : Task) (s : Seen) (a : Result Asked Refusal) → a ≡ asked_of n p e → (b : Result Asked Refusal) → a ≡ b → obeyed b t s ≡ order_of n p e t s
+asked_done n p e t s a q b r = ap (λ (x : Result Asked Refusal). obeyed x t s) (sym r ∙ q) ∙ sym (order_asked n p e t s)
+
+ok_of_both : (a b : Bool) (f g h : Asked) → ◌≡◌ {A = Result Asked Refusal} (cond a (Ok f) (cond b (Ok g) (Ok h))) (Ok (cond a f (cond b g h)))
+ok_of_both true b f g h = refl
+ok_of_both false true f g h = refl
+ok_of_both false false f g h = refl
 
 module _ (n p : ℕ) (q : TaskNo) (kind : ℕ) (x : CellNo) (spare y : ℕ) where
-  abbrev Asks : Asked → Type 0
+  abbrev Asks : Result Asked Refusal → Type 0
   Asks a = asked_of n p (entry_by q kind x spare y) ≡ a
 
-  pub no-task : p ≤ q.0 → Asks (Faulty NoTask)
+  pub no-task : p ≤ q.0 → Asks (Err NoTask)
   unfolding asked_of
   no-task h = rw (le-leb p q.0 h)
 
   module _ (a : q.0 < p) where
-    pub no_kind : 4 < kind → Asks (Faulty NoKind)
+    pub no_kind : 4 < kind → Asks (Err NoKind)
     unfolding asked_of
     no_kind h = rw (lt-leb p q.0 a, lt-ltb 4 kind h)
 
-    pub spare_set : kind ≤ 4 → spare ≢ 0 → Asks (Faulty NotZero)
+    pub spare_set : kind ≤ 4 → spare ≢ 0 → Asks (Err NotZero)
     unfolding asked_of nonzero
     spare_set k h = rw (lt-leb p q.0 a, le-ltb 4 kind k, ne_eqb spare 0 h)
 
     module _ (z : spare ≡ 0) where
-      pub load_value : kind ≡ 1 → y ≢ 0 → Asks (Faulty NotZero)
+      pub load_value : kind ≡ 1 → y ≢ 0 → Asks (Err NotZero)
       unfolding asked_of nonzero
       load_value k h = rw (lt-leb p q.0 a, k, eq-eqb spare 0 z, ne_eqb y 0 h)
 
-      pub load_cell : kind ≡ 1 → y ≡ 0 → n ≤ x.0 → Asks (Faulty NoCell)
+      pub load_cell : kind ≡ 1 → y ≡ 0 → n ≤ x.0 → Asks (Err NoCell)
       unfolding asked_of nonzero outside
       load_cell k h c = rw (lt-leb p q.0 a, k, eq-eqb spare 0 z, eq-eqb y 0 h, le-leb n x.0 c)
 
-      pub to_load : kind ≡ 1 → y ≡ 0 → x.0 < n → Asks (ToLoad x)
+      pub to_load : kind ≡ 1 → y ≡ 0 → x.0 < n → Asks (Ok (ToLoad x))
       unfolding asked_of nonzero outside
       to_load k h c = rw (lt-leb p q.0 a, k, eq-eqb spare 0 z, eq-eqb y 0 h, lt-leb n x.0 c)
 
-      pub store-cell : kind ≡ 2 → n ≤ x.0 → Asks (Faulty NoCell)
+      pub store-cell : kind ≡ 2 → n ≤ x.0 → Asks (Err NoCell)
       unfolding asked_of nonzero outside
       store-cell k c = rw (lt-leb p q.0 a, k, eq-eqb spare 0 z, le-leb n x.0 c)
 
-      pub to_store : kind ≡ 2 → x.0 < n → Asks (ToStore x y)
+      pub to_store : kind ≡ 2 → x.0 < n → Asks (Ok (ToStore x y))
       unfolding asked_of nonzero outside
       to_store k c = rw (lt-leb p q.0 a, k, eq-eqb spare 0 z, lt-leb n x.0 c)
 
       -- a kind that names no cell
       module _ (few : kind ≤ 4) (not-one : kind ≢ 1) (not-two : kind ≢ 2) where
-        pub cell_set : x.0 ≢ 0 → Asks (Faulty NotZero)
+        pub cell_set : x.0 ≢ 0 → Asks (Err NotZero)
         unfolding asked_of nonzero
         cell_set h = rw (lt-leb p q.0 a, le-ltb 4 kind few, eq-eqb spare 0 z, ne_eqb kind 1 not-one, ne_eqb kind 2 not-two, ne_eqb x.0 0 h)
 
-        pub value_set : x.0 ≡ 0 → y ≢ 0 → Asks (Faulty NotZero)
+        pub value_set : x.0 ≡ 0 → y ≢ 0 → Asks (Err NotZero)
         unfolding asked_of nonzero
         value_set c h = rw (lt-leb p q.0 a, le-ltb 4 kind few, eq-eqb spare 0 z, ne_eqb kind 1 not-one, ne_eqb kind 2 not-two, eq-eqb x.0 0 c, ne_eqb y 0 h)
 
-        pub by_kind : x.0 ≡ 0 → y ≡ 0 → Asks (plain_of kind)
+        pub by_kind : x.0 ≡ 0 → y ≡ 0 → Asks (Ok (plain_of kind))
         unfolding asked_of plain_of nonzero outside
-        by_kind c h = rw (lt-leb p q.0 a, le-ltb 4 kind few, eq-eqb spare 0 z, ne_eqb kind 1 not-one, ne_eqb kind 2 not-two, eq-eqb x.0 0 c, eq-eqb y 0 h)
+        by_kind c h = rw (lt-leb p q.0 a, le-ltb 4 kind few, eq-eqb spare 0 z, ne_eqb kind 1 not-one, ne_eqb kind 2 not-two, eq-eqb x.0 0 c, eq-eqb y 0 h) (ok_of_both (eqb kind 0) (eqb kind 3) ToGo ToRelease ToValidate)

@@ -1,4 +1,5 @@
 -- An entry and its ten bytes: each gives the other back. Assumes nothing.
+use Rattle.std.specs.Prelude.{Result, Ok, Err}
 use Prim.Native.Nat.{ℕ, zero, suc, ◌+◌, ◌*◌, ◌/◌, ◌%◌, ◌≤◌, ◌<◌}
 use native.Mathlib.Omega.{arith}
 use native.Mathlib.Decide.{dec_lt}
@@ -11,8 +12,9 @@ use lib.Dec.{eqb, ltb}
 use borrow.Author.Tests.{le-ltb, ltb-false, eqb-true}
 use Rattle.tallies.proofs.Lists.{both}
 use Rattle.wire.specs.Bytes.{Bytes, entry_mark, marked, word, word_at, little_endian}
-use Rattle.entries.specs.Types.{WrongMark, TooShort, Entry, EntryRead, Whole, Refused}
+use Rattle.entries.specs.Types.{WrongMark, TooShort, Entry}
 use Rattle.entries.specs.Entry.{entry_at, entry_of, entry_bytes}
+use Rattle.answers.specs.declared.Refusal.{Refusal}
 
 -- the first n elements, written out
 abbrev firsts : ℕ → (ℕ → ℕ) → List ℕ
@@ -39,7 +41,7 @@ little_back a b c d ha hb hc hd =
     rw (q1, q2, q3, e0, e1, e2)
 
 -- an entry's bytes, whatever follows them, are read as that entry
-pub entry_back : (e : Entry) (w : List ℕ) → entry_of (entry_bytes e ++ w) ≡ Whole e
+pub entry_back : (e : Entry) (w : List ℕ) → entry_of (entry_bytes e ++ w) ≡ Ok e
 unfolding entry_of marked word_at
 entry_back e w = rw (le-ltb (length (entry_bytes e ++ w)) 10 (omega arith), word_back e.value)
 
@@ -66,16 +68,16 @@ pub record Read (s : List ℕ) (e : Entry) : Type 0 where
   pub spare : e.spare ≡ get_or s 5 0
   pub value : e.value ≡ word_at s 6
 
-inside : {a b : Entry} → Whole a ≡ Whole b → a ≡ b
+inside : {a b : Entry} → ◌≡◌ {A = Result Entry Refusal} (Ok a) (Ok b) → a ≡ b
 inside h = cc
 
-pub entry_read : (s : List ℕ) (e : Entry) → entry_of s ≡ Whole e → Read s e
+pub entry_read : (s : List ℕ) (e : Entry) → entry_of s ≡ Ok e → Read s e
 unfolding entry_of marked
 entry_read s e = go (ltb (length s) 10) (marked entry_mark s) refl refl
   where
-    go : (t m : Bool) → ltb (length s) 10 ≡ t → marked entry_mark s ≡ m → entry_of s ≡ Whole e → Read s e
-    go true m q r h = let z : ◌≡◌ {A = EntryRead} (Refused TooShort) (Whole e) = rw q at h in let n : ◌≡◌ {A = ℕ} 0 1 = cc in absurd (omega arith)
-    go false false q r h = let z : ◌≡◌ {A = EntryRead} (Refused WrongMark) (Whole e) = rw (q, r) at h in let n : ◌≡◌ {A = ℕ} 0 1 = cc in absurd (omega arith)
+    go : (t m : Bool) → ltb (length s) 10 ≡ t → marked entry_mark s ≡ m → entry_of s ≡ Ok e → Read s e
+    go true m q r h = let z : ◌≡◌ {A = Result Entry Refusal} (Err TooShort) (Ok e) = rw q at h in let n : ◌≡◌ {A = ℕ} 0 1 = cc in absurd (omega arith)
+    go false false q r h = let z : ◌≡◌ {A = Result Entry Refusal} (Err WrongMark) (Ok e) = rw (q, r) at h in let n : ◌≡◌ {A = ℕ} 0 1 = cc in absurd (omega arith)
     go false true q r h =
         let z = rw (q, r) at h in
         let m = both (eqb (get_or s 0 0) 0x45) (eqb (get_or s 1 0) 0x4E) r in
@@ -90,7 +92,7 @@ entry_read s e = go (ltb (length s) 10) (marked entry_mark s) refl refl
         }
 
 -- ten bytes that are read as an entry are that entry's bytes
-pub bytes_back : (b : List ℕ) (e : Entry) → Bytes b → length b ≡ 10 → entry_of b ≡ Whole e → b ≡ entry_bytes e
+pub bytes_back : (b : List ℕ) (e : Entry) → Bytes b → length b ≡ 10 → entry_of b ≡ Ok e → b ≡ entry_bytes e
 unfolding word_at
 bytes_back b e small ten h =
     let r = entry_read b e h in
@@ -99,11 +101,11 @@ bytes_back b e small ten h =
     sym (take_all 10 b (omega arith)) ∙ take_firsts 10 b (omega arith) ∙ rw (r.mark.0, r.mark.1, r.task, r.kind, r.cell, r.spare, r.value, four)
 
 -- and its value has 32 bits
-pub value-small : (s : List ℕ) (e : Entry) → Bytes s → entry_of s ≡ Whole e → e.value < 4294967296
+pub value-small : (s : List ℕ) (e : Entry) → Bytes s → entry_of s ≡ Ok e → e.value < 4294967296
 unfolding word_at
 value-small s e small h = rw (entry_read s e h).value (omega (arith, small 6, small 7, small 8, small 9))
 
 -- ten bytes with the mark are read
-pub entry-marked : (b : List ℕ) → length b ≡ 10 → marked entry_mark b ≡ true → entry_of b ≡ Whole (entry_at b)
+pub entry-marked : (b : List ℕ) → length b ≡ 10 → marked entry_mark b ≡ true → entry_of b ≡ Ok (entry_at b)
 unfolding entry_of
 entry-marked b ten q = rw (le-ltb (length b) 10 (omega arith), q)

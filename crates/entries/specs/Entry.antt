@@ -1,7 +1,8 @@
 -- An entry's ten bytes: the mark, task, kind, cell, a zero byte, value (4); which of them must be zero (15), and which cells there are (14).
-use Rattle.std.specs.Prelude.{ℕ, Bool, cond, not, ◌&&◌, ◌||◌, List, ◌∷◌, ◌++◌, eqb, leb, ltb, length, get_or}
+use Rattle.std.specs.Prelude.{ℕ, Bool, cond, not, ◌&&◌, ◌||◌, List, ◌∷◌, ◌++◌, eqb, leb, ltb, length, get_or, Result, Ok, Err}
 use Rattle.wire.specs.Bytes.{entry_mark, marked, word_at, little_endian}
-use Rattle.entries.specs.Types.{WrongMark, TooShort, Entry, EntryRead, Whole, Refused}
+use Rattle.entries.specs.Types.{WrongMark, TooShort, Entry}
+use Rattle.answers.specs.declared.Refusal.{Refusal}
 
 -- the entry that the first ten bytes of s are
 abbrev pub entry_at : List ℕ → Entry
@@ -15,11 +16,11 @@ entry_at s =
     }
 
 -- the entry at the front of s, or why there is none
-unfoldable pub entry_of : List ℕ → EntryRead
+unfoldable pub entry_of : List ℕ → Result Entry Refusal
 entry_of s =
-    cond (ltb (length s) 10) (Refused TooShort)  -- 20
-    (cond (not (marked entry_mark s)) (Refused WrongMark)  -- 19
-    (Whole (entry_at s)))
+    cond (ltb (length s) 10) (Err TooShort)  -- 20
+    (cond (not (marked entry_mark s)) (Err WrongMark)  -- 19
+    (Ok (entry_at s)))
 
 -- an entry's ten bytes
 abbrev pub entry_bytes : Entry → List ℕ

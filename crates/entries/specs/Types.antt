@@ -8,10 +8,7 @@ pub use Rattle.answers.specs.declared.Reply.TheVariants.{Moved, Lost}
 pub use Rattle.answers.specs.declared.Refusal.TheVariants.{NoTask, NoKind, NoCell, NotZero, NotNow, WrongMark, TooShort}
 pub use Rattle.steps.specs.declared.Seen.{Seen}
 pub use Rattle.steps.specs.declared.Write.TheVariants.{Nothing}
-pub use Rattle.steps.specs.declared.Effect.{Effect}
-pub use Rattle.steps.specs.declared.Effect.TheVariants.{Refuses}
+pub use Rattle.steps.specs.Types.{Effect}
 pub use Rattle.entries.specs.declared.Entry.{Entry}
-pub use Rattle.entries.specs.declared.EntryRead.{EntryRead}
-pub use Rattle.entries.specs.declared.EntryRead.TheVariants.{Whole, Refused}
 pub use Rattle.entries.specs.declared.Asked.{Asked}
-pub use Rattle.entries.specs.declared.Asked.TheVariants.{ToGo, ToLoad, ToStore, ToRelease, ToValidate, Faulty}
+pub use Rattle.entries.specs.declared.Asked.TheVariants.{ToGo, ToLoad, ToStore, ToRelease, ToValidate}

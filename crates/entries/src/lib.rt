@@ -21,25 +21,19 @@ pub struct Entry {
     pub value: u32,
 }
 
-#[derive(Clone, Copy)]
-pub enum EntryRead {
-    Whole(Entry),
-    Refused(Refusal),
-}
-
 // The first ten bytes; what follows them is not looked at. Refusals 20 and 19.
 #[tactic(auto, unfolding(crate::specs::Entry::entry_of))]
-pub fn read_entry(s: &[u8]) -> EntryRead
+pub fn read_entry(s: &[u8]) -> Result<Entry, Refusal>
     ensures { result ≡ entry_of s.now }
 {
     if s.len() < 10 {
-        return EntryRead::Refused(Refusal::TooShort);
+        return Err(Refusal::TooShort);
     }
     if !wire::starts_with(s, wire::ENTRY) {
-        return EntryRead::Refused(Refusal::WrongMark);
+        return Err(Refusal::WrongMark);
     }
     let y = wire::word_at(s, 6);
-    EntryRead::Whole(Entry {
+    Ok(Entry {
         task: TaskNo(s[2]),
         kind: s[3],
         cell: CellNo(s[4]),
@@ -64,7 +58,7 @@ pub fn put_entry(out: &mut [u8], at: usize, e: Entry)
     wire::put_word(out, at + 6, e.value);
 }
 
-// What an entry asks of its task, or the first refusal that its own numbers give.
+// What an entry asks of its task.
 #[derive(Clone, Copy)]
 pub enum Asked {
     ToGo,
@@ -72,7 +66,6 @@ pub enum Asked {
     ToStore(CellNo, u32),
     ToRelease,
     ToValidate,
-    Faulty(Refusal),
 }
 
 // The kinds that name no cell.
@@ -87,44 +80,52 @@ fn plain(kind: u8) -> Asked
     }
 }
 
-// Refusals 12, 13, 15 and 14, for n cells and p tasks. The entry comes in its parts, and each kind has its own tests: so a run is quicker.
+// What an entry asks, or the first refusal that its own numbers give: 12, 13, 15 and 14, for n cells and p tasks. The entry comes in its parts, and each kind has its own tests: so a run is quicker.
 #[tactic(auto, unfolding(crate::specs::Asking::asked_of, crate::specs::Asking::plain_of, crate::specs::Entry::nonzero, crate::specs::Entry::outside))]
-pub fn asks(n: u8, p: u8, q: TaskNo, kind: u8, x: CellNo, spare: u8, y: u32) -> Asked
+pub fn asks(
+    n: u8,
+    p: u8,
+    q: TaskNo,
+    kind: u8,
+    x: CellNo,
+    spare: u8,
+    y: u32,
+) -> Result<Asked, Refusal>
     ensures { result ≡ asked_of n p (entry_by q kind x spare y) }
 {
     if p <= q.0 {
-        return Asked::Faulty(Refusal::NoTask);
+        return Err(Refusal::NoTask);
     }
     if 4 < kind {
-        return Asked::Faulty(Refusal::NoKind);
+        return Err(Refusal::NoKind);
     }
     if spare != 0 {
-        return Asked::Faulty(Refusal::NotZero);
+        return Err(Refusal::NotZero);
     }
     match kind {
         1 => {
             if y != 0 {
-                return Asked::Faulty(Refusal::NotZero);
+                return Err(Refusal::NotZero);
             }
             if n <= x.0 {
-                return Asked::Faulty(Refusal::NoCell);
+                return Err(Refusal::NoCell);
             }
-            Asked::ToLoad(x)
+            Ok(Asked::ToLoad(x))
         }
         2 => {
             if n <= x.0 {
-                return Asked::Faulty(Refusal::NoCell);
+                return Err(Refusal::NoCell);
             }
-            Asked::ToStore(x, y)
+            Ok(Asked::ToStore(x, y))
         }
         _ => {
             if x.0 != 0 {
-                return Asked::Faulty(Refusal::NotZero);
+                return Err(Refusal::NotZero);
             }
             if y != 0 {
-                return Asked::Faulty(Refusal::NotZero);
+                return Err(Refusal::NotZero);
             }
-            plain(kind)
+            Ok(plain(kind))
         }
     }
 }
@@ -134,7 +135,7 @@ fn begin_call(t: Task, c: Call) -> Effect
     ensures { result ≡ begins t c }
 {
     let u = tasks::lent_begin(t, c);
-    Effect::Does(Deed {
+    Ok(Deed {
         task: u,
         write: Write::Nothing,
         reply: Reply::Moved,
@@ -147,7 +148,7 @@ pub fn load(t: Task, x: CellNo) -> Effect
     ensures { result ≡ load_of t x }
 {
     if t.phase != 0 {
-        return Effect::Refuses(Refusal::NotNow);
+        return Err(Refusal::NotNow);
     }
     begin_call(t, Call::Load(x))
 }
@@ -177,10 +178,10 @@ pub fn store(t: Task, x: CellNo, y: u32) -> Effect
     ensures { result ≡ store_of t x y }
 {
     if !resting(t.phase) {
-        return Effect::Refuses(Refusal::NotNow);
+        return Err(Refusal::NotNow);
     }
     if !linked_to(t, x) {
-        return Effect::Does(Deed {
+        return Ok(Deed {
             task: t,
             write: Write::Nothing,
             reply: Reply::Lost,
@@ -195,7 +196,7 @@ pub fn linked_call(t: Task, c: Call) -> Effect
     ensures { result ≡ linked_call_of t c }
 {
     if t.phase != 6 {
-        return Effect::Refuses(Refusal::NotNow);
+        return Err(Refusal::NotNow);
     }
     begin_call(t, c)
 }
@@ -207,8 +208,7 @@ pub fn order(n: u8, p: u8, e: Entry, t: Task, s: Seen) -> Effect
 {
     let q = e.task;
     let x = e.cell;
-    match asks(n, p, q, e.kind, x, e.spare, e.value) {
-        Asked::Faulty(r) => Effect::Refuses(r),
+    match asks(n, p, q, e.kind, x, e.spare, e.value)? {
         Asked::ToGo => steps::step(t, s),
         Asked::ToLoad(x) => load(t, x),
         Asked::ToStore(x, y) => store(t, x, y),

@@ -1,4 +1,5 @@
 -- Wrong answers of what a step sees, of the tables' range test and of one entry on a record that their contracts rule out. Assumes nothing.
+use Rattle.std.specs.Prelude.{Ok, Err}
 use Prim.Native.Nat.{ℕ}
 use native.Mathlib.Omega.{arith}
 use mathlib.Core.Path.{◌≡◌, ap, refl, sym, ◌∙◌}
@@ -10,7 +11,6 @@ use lib.Seq.{get_or-set_other}
 use contract.Lifetimes.{Lfts}
 use Rattle.answers.specs.declared.Refusal.{Refusal}
 use Rattle.answers.specs.declared.Reply.{Reply}
-use Rattle.answers.specs.declared.Answer.TheVariants.{Replied, Refused}
 use Rattle.tasks.specs.declared.Task.{Task}
 use Rattle.tasks.specs.Records.{no_task}
 use Rattle.steps.specs.declared.Seen.{Seen}
@@ -116,7 +116,7 @@ module _ (κs : Lfts 1) (z : Applied) where
   Applies m s = apply.Post κs (m, (lent s, tt)) z (m, (lent s, tt))
 
   -- a refusal that changes the record
-  pub refusal_changes_record : (m : Machine) (s : List ℕ) (r : Refusal) → Applies m s → z.answer ≡ Refused r → z.machine ≢ m → ⊥
+  pub refusal_changes_record : (m : Machine) (s : List ℕ) (r : Refusal) → Applies m s → z.answer ≡ Err r → z.machine ≢ m → ⊥
   refusal_changes_record m s r q a h = h (ap (λ x. x.machine) q ∙ refused_leaves m s (ap accepted (sym (ap (λ x. x.answer) q) ∙ a)))
 
   -- an entry that changes N, P or K
@@ -128,7 +128,7 @@ module _ (κs : Lfts 1) (z : Applied) where
   entry_writes_other_task m s j q n h = h (ap (λ x. task_at x.machine j) q ∙ keeps-task m s j n)
 
   -- an accepted entry whose reply has another task byte than the entry
-  pub reply_has_other_task : (m : Machine) (s : List ℕ) (r : Reply) → Applies m s → z.answer ≡ Replied r → z.task ≢ get_or s 2 0 → ⊥
+  pub reply_has_other_task : (m : Machine) (s : List ℕ) (r : Reply) → Applies m s → z.answer ≡ Ok r → z.task ≢ get_or s 2 0 → ⊥
   reply_has_other_task m s r q a h = h (ap (λ x. x.task) q ∙ names-task m s (ap accepted (sym (ap (λ x. x.answer) q) ∙ a)))
 
   -- a refused entry of task 200 whose reply has the number of the record that was looked at

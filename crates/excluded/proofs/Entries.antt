@@ -1,4 +1,5 @@
 -- Wrong answers of what an entry asks, and of calls that begin, that their contracts rule out. Assumes nothing.
+use Rattle.std.specs.Prelude.{Result}
 use Prim.Native.Nat.{ℕ}
 use native.Mathlib.Omega.{arith}
 use mathlib.Core.Path.{◌≡◌, ap}
@@ -6,7 +7,7 @@ use Rattle.tasks.specs.declared.Call.{Call}
 use Rattle.tasks.specs.declared.Call.TheVariants.{Release, Validate}
 use Rattle.tasks.specs.declared.Task.{Task}
 use Rattle.tasks.specs.Records.{cell_no}
-use Rattle.steps.specs.declared.Effect.{Effect}
+use Rattle.steps.specs.Types.{Effect}
 use Rattle.entries.specs.declared.Asked.{Asked}
 use Rattle.entries.specs.Asking.{asked_of}
 use Rattle.entries.specs.Entry.{nonzero, outside}
@@ -17,8 +18,9 @@ use Rattle.entries.proofs.store.Reads as store
 use Rattle.entries.proofs.linked_call.Reads as linked-call
 use Rattle.excluded.specs.Records.{at}
 use Rattle.excluded.specs.Looks.{phase_left, cell_left, number_told, fault_found, kind_asked}
+use Rattle.answers.specs.declared.Refusal.{Refusal}
 
-module _ (z : Asked) where
+module _ (z : Result Asked Refusal) where
   -- what an entry of task q, a kind, cell x, a spare byte and value y asks, in a machine of 1 cell and 2 tasks
   abbrev Asks : ℕ → ℕ → ℕ → ℕ → ℕ → Type 0
   Asks q kind x spare y =

@@ -1,4 +1,5 @@
 -- Wrong answers of a setup and its schedule in one input that the contract rules out. Assumes nothing.
+use Rattle.std.specs.Prelude.{Result, Ok, Err}
 use Prim.Native.Nat.{ℕ}
 use native.Mathlib.Omega.{arith}
 use mathlib.Core.Path.{◌≡◌, sym, ap, ◌∙◌}
@@ -13,15 +14,11 @@ use Rattle.answers.specs.declared.Refusal.{Refusal}
 use Rattle.entries.specs.Schedule.{cut}
 use Rattle.cells.specs.declared.Machine.{Machine}
 use Rattle.cells.specs.declared.SetUp.{SetUp}
-use Rattle.cells.specs.declared.SetupAnswer.{SetupAnswer}
-use Rattle.cells.specs.declared.SetupAnswer.TheVariants.{Ready, Refused as NotSetUp}
 use Rattle.cells.specs.Machine.{in_range}
 use Rattle.cells.specs.Setup.{setup_of}
 use Rattle.cells.proofs.Machine.setup.Reads as machine-setup
 use Rattle.runs.specs.declared.Report.{Report}
 use Rattle.runs.specs.declared.Ran.{Ran}
-use Rattle.runs.specs.declared.Outcome.{Outcome}
-use Rattle.runs.specs.declared.Outcome.TheVariants.{Refused as NotRun, Reported}
 use Rattle.runs.specs.Run.{ran_from, ran_of}
 use Rattle.runs.specs.Input.{outcome_by, replies_by, free_nodes_by}
 use Rattle.runs.proofs.run_free.Reads as run-free
@@ -35,9 +32,9 @@ use Rattle.excluded.specs.Records.{running}
 use Rattle.excluded.specs.Looks.{report_told}
 
 -- a run is refused only with its setup's refusal
-refused_by_lem : (a : SetupAnswer) (m : Machine) (input : List ℕ) (room : ℕ) (r : Refusal) → outcome_by a m input room ≡ NotRun r → a ≡ NotSetUp r
-refused_by_lem (Ready u) m input room r h = absurd (never cc)
-refused_by_lem (NotSetUp x) m input room r h = let e : x ≡ r = cc in ap NotSetUp e
+refused_by_lem : (a : Result ℕ Refusal) (m : Machine) (input : List ℕ) (room : ℕ) (r : Refusal) → outcome_by a m input room ≡ Err r → a ≡ Err r
+refused_by_lem (Ok u) m input room r h = absurd (never cc)
+refused_by_lem (Err x) m input room r h = let e : x ≡ r = cc in ap Err e
 
 -- a run of no bytes on a record in range has no refusal
 nothing_refused : (m : Machine) (s : List ℕ) (room : ℕ) → in_range m ≡ true → s ≡ [] → (ran_of m s room).report.refusal ≡ 0
@@ -49,40 +46,40 @@ abbrev small_load : List ℕ
 small_load = small ++ load 0 0
 
 -- z is handed back, and the buffers at exit are out, for the replies, and notes, for the numbers of free nodes
-module _ (κs : Lfts 3) (z : Outcome) (out notes : List ℕ) where
+module _ (κs : Lfts 3) (z : Result Report Refusal) (out notes : List ℕ) where
   -- a run of the bytes `input`, with these buffers at entry
   abbrev Inputs : List ℕ → List ℕ → List ℕ → Type 0
   Inputs input was free = run-input.Post κs (lent input, (lent_mut was, (lent_mut free, tt))) z (lent input, (lent_mut out, (lent_mut notes, tt)))
 
   module _ (input was free : List ℕ) where
-    refuses : (r : Refusal) → Inputs input was free → z ≡ NotRun r → (setup_of input).answer ≡ NotSetUp r
+    refuses : (r : Refusal) → Inputs input was free → z ≡ Err r → (setup_of input).answer ≡ Err r
     refuses r q h = refused_by_lem (setup_of input).answer (setup_of input).machine input (length was) r (sym q.0 ∙ h)
 
     -- a refused setup after which a reply is written
-    pub refused_input_replies : (r : Refusal) → Inputs input was free → z ≡ NotRun r → out ≢ was → ⊥
+    pub refused_input_replies : (r : Refusal) → Inputs input was free → z ≡ Err r → out ≢ was → ⊥
     refused_input_replies r q h d = d (q.1 ∙ ap (λ a. replies_by a (setup_of input).machine input was) (refuses r q h))
 
     -- a refused setup after which a number of free nodes is noted
-    pub refused_input_notes : (r : Refusal) → Inputs input was free → z ≡ NotRun r → notes ≢ free → ⊥
+    pub refused_input_notes : (r : Refusal) → Inputs input was free → z ≡ Err r → notes ≢ free → ⊥
     refused_input_notes r q h d = d (q.2 ∙ ap (λ a. free_nodes_by a (setup_of input).machine input (length was) free) (refuses r q h))
 
     -- a run that is refused though the setup is accepted
-    pub accepted_input_refused : (u : ℕ) (r : Refusal) → (setup_of input).answer ≡ Ready u → Inputs input was free → z ≡ NotRun r → ⊥
+    pub accepted_input_refused : (u : ℕ) (r : Refusal) → (setup_of input).answer ≡ Ok u → Inputs input was free → z ≡ Err r → ⊥
     accepted_input_refused u r a q h = let e = sym a ∙ refuses r q h in never cc
 
     -- a run that starts though the setup is refused
-    pub refused_input_starts : (r : Refusal) (x : Report) → (setup_of input).answer ≡ NotSetUp r → Inputs input was free → z ≡ Reported x → ⊥
+    pub refused_input_starts : (r : Refusal) (x : Report) → (setup_of input).answer ≡ Err r → Inputs input was free → z ≡ Ok x → ⊥
     refused_input_starts r x a q h = let e = sym h ∙ q.0 ∙ ap (λ b. outcome_by b (setup_of input).machine input (length was)) a in never cc
 
     -- a run that is refused with another refusal than the setup's
-    pub input_has_other_refusal : (r x : Refusal) → (setup_of input).answer ≡ NotSetUp r → Inputs input was free → z ≡ NotRun x → x ≢ r → ⊥
+    pub input_has_other_refusal : (r x : Refusal) → (setup_of input).answer ≡ Err r → Inputs input was free → z ≡ Err x → x ≢ r → ⊥
     input_has_other_refusal r x a q h d = let e = sym (refuses x q h) ∙ a in d cc
 
-    reports : (u : ℕ) → (setup_of input).answer ≡ Ready u → Inputs input was free → report_told z ≡ (ran_of (setup_of input).machine (drop u input) (length was)).report
+    reports : (u : ℕ) → (setup_of input).answer ≡ Ok u → Inputs input was free → report_told z ≡ (ran_of (setup_of input).machine (drop u input) (length was)).report
     reports u a q = ap report_told (q.0 ∙ ap (λ b. outcome_by b (setup_of input).machine input (length was)) a)
 
     -- a run that reports a refusal though nothing follows the setup
-    pub no_schedule_refused : (setup_of input).answer ≡ Ready (length input) → Inputs input was free → (report_told z).refusal ≢ 0 → ⊥
+    pub no_schedule_refused : (setup_of input).answer ≡ Ok (length input) → Inputs input was free → (report_told z).refusal ≢ 0 → ⊥
     no_schedule_refused a q d =
         let r = in_range_lem (setup_of input).machine (setup_kept input (length input) a) in
         d (ap (λ x. x.refusal) (reports (length input) a q)
@@ -91,14 +88,14 @@ module _ (κs : Lfts 3) (z : Outcome) (out notes : List ℕ) where
     -- the two calls that it stands for: y is the setup of those bytes, which uses u of them; w, replies and numbers are what a run of the rest gives
     module _ (κ : Lfts 1) (κr : Lfts 3) (y : SetUp) (u : ℕ) (w : Ran) (replies numbers : List ℕ) where
       abbrev SetsUp : Type 0
-      SetsUp = machine-setup.Post κ (lent input, tt) y (lent input, tt) × (y.answer ≡ Ready u)
+      SetsUp = machine-setup.Post κ (lent input, tt) y (lent input, tt) × (y.answer ≡ Ok u)
 
       abbrev RunsOn : Type 0
       RunsOn =
           run-free.Post κr (y.machine, (lent (drop u input), (lent_mut was, (lent_mut free, tt)))) w
           (y.machine, (lent (drop u input), (lent_mut replies, (lent_mut numbers, tt))))
 
-      ready : SetsUp → (setup_of input).answer ≡ Ready u
+      ready : SetsUp → (setup_of input).answer ≡ Ok u
       ready e = sym (ap (λ x. x.answer) e.0) ∙ e.1
 
       -- another report than theirs

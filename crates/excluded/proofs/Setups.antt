@@ -1,4 +1,5 @@
 -- Wrong answers of a setup, of its head alone, over lent tables and as a record, that the contracts rule out. Assumes nothing.
+use Rattle.std.specs.Prelude.{Result, Ok, Err}
 use Prim.Native.Nat.{ℕ, ◌+◌, ◌*◌, ◌≤◌, ◌<◌}
 use native.Mathlib.Omega.{arith}
 use mathlib.Core.Path.{◌≡◌, refl, sym, ap, ◌∙◌}
@@ -18,8 +19,6 @@ use Rattle.tables.specs.Tables.{sizes_ok, value_given}
 use Rattle.tables.proofs.Laws.{sizes_bounds}
 use Rattle.cells.specs.declared.Machine.{Machine}
 use Rattle.cells.specs.declared.SetUp.{SetUp}
-use Rattle.cells.specs.declared.SetupAnswer.{SetupAnswer}
-use Rattle.cells.specs.declared.SetupAnswer.TheVariants.{Ready, Refused as NotSetUp}
 use Rattle.cells.specs.declared.start.Head.{Head}
 use Rattle.cells.specs.declared.start.Laid.{Laid}
 use Rattle.cells.specs.Setup.{blank_of, fresh_of, refused_setup, setup_of, head_of}
@@ -70,19 +69,19 @@ module _ (s : List ℕ) where
       (λ a b c d e. let m = marks (not-false _ b) in
       ready (record { first = m.0; second = m.1; sizes = not-false _ d; used = refl; room = ltb-false _ _ e; n = refl; p = refl; k = refl }))
 
-  taken : (u : ℕ) → (setup_of s).answer ≡ Ready u → Taken s u (setup_of s).machine
+  taken : (u : ℕ) → (setup_of s).answer ≡ Ok u → Taken s u (setup_of s).machine
   taken u =
-      by_answer (λ x. x.answer ≡ Ready u → Taken s u x.machine) (λ l q. absurd (never cc)) (λ q. absurd (never cc)) (λ q. absurd (never cc))
+      by_answer (λ x. x.answer ≡ Ok u → Taken s u x.machine) (λ l q. absurd (never cc)) (λ q. absurd (never cc)) (λ q. absurd (never cc))
       (λ z q. absurd (never cc)) (λ t q. let e : needs ≡ u = cc in rw (← e) t)
 
-  too_short : (setup_of s).answer ≡ NotSetUp TooShort → length s < needs
+  too_short : (setup_of s).answer ≡ Err TooShort → length s < needs
   too_short =
-      by_answer (λ x. x.answer ≡ NotSetUp TooShort → length s < needs) (λ l q. l) (λ q. absurd (never cc)) (λ q. absurd (never cc))
+      by_answer (λ x. x.answer ≡ Err TooShort → length s < needs) (λ l q. l) (λ q. absurd (never cc)) (λ q. absurd (never cc))
       (λ z q. absurd (never cc)) (λ t q. absurd (never cc))
 
-  spare_zero : (setup_of s).answer ≡ NotSetUp Sizes → get_or s 5 0 ≡ 0
+  spare_zero : (setup_of s).answer ≡ Err Sizes → get_or s 5 0 ≡ 0
   spare_zero =
-      by_answer (λ x. x.answer ≡ NotSetUp Sizes → get_or s 5 0 ≡ 0) (λ l q. absurd (never cc)) (λ q. absurd (never cc)) (λ q. absurd (never cc))
+      by_answer (λ x. x.answer ≡ Err Sizes → get_or s 5 0 ≡ 0) (λ l q. absurd (never cc)) (λ q. absurd (never cc)) (λ q. absurd (never cc))
       (λ z q. z) (λ t q. absurd (never cc))
 
 words-length : (vs : List ℕ) → length (words vs) ≡ 4 * length vs
@@ -90,7 +89,7 @@ words-length [] = refl
 words-length (v ∷ vs) = omega (arith, words-length vs)
 
 -- a setup that is written out with sizes in bounds is accepted
-takes : (n p k : ℕ) (vs : List ℕ) → InBounds n p k → length vs ≡ n → (setup_of (setup n p k vs)).answer ≡ Ready (6 + 4 * n)
+takes : (n p k : ℕ) (vs : List ℕ) → InBounds n p k → length vs ≡ n → (setup_of (setup n p k vs)).answer ≡ Ok (6 + 4 * n)
 unfolding setup_of marked sizes_ok
 takes n p k vs b l =
     rw (
@@ -109,66 +108,66 @@ module _ (κs : Lfts 1) (z : Head) where
   abbrev Heads : List ℕ → Type 0
   Heads s = read_head.Post κs (lent s, tt) z (lent s, tt)
 
-  answered : (s : List ℕ) (a : SetupAnswer) → Heads s → z.answer ≡ a → (setup_of s).answer ≡ a
+  answered : (s : List ℕ) (a : Result ℕ Refusal) → Heads s → z.answer ≡ a → (setup_of s).answer ≡ a
   answered s a q h = sym (ap (λ x. x.answer) q) ∙ h
 
   -- a refused setup that still has cells
-  pub refused_head_has_cells : (s : List ℕ) (r : Refusal) → Heads s → z.answer ≡ NotSetUp r → z.n ≢ 0 → ⊥
+  pub refused_head_has_cells : (s : List ℕ) (r : Refusal) → Heads s → z.answer ≡ Err r → z.n ≢ 0 → ⊥
   refused_head_has_cells s r q a h = h (ap (λ x. x.n) q ∙ ap (λ m. m.n) (setup_blank s r (answered s _ q a)))
 
   -- a refused setup that still has tasks
-  pub refused_head_has_tasks : (s : List ℕ) (r : Refusal) → Heads s → z.answer ≡ NotSetUp r → z.p ≢ 0 → ⊥
+  pub refused_head_has_tasks : (s : List ℕ) (r : Refusal) → Heads s → z.answer ≡ Err r → z.p ≢ 0 → ⊥
   refused_head_has_tasks s r q a h = h (ap (λ x. x.p) q ∙ ap (λ m. m.p) (setup_blank s r (answered s _ q a)))
 
   -- a refused setup that still has nodes
-  pub refused_head_has_nodes : (s : List ℕ) (r : Refusal) → Heads s → z.answer ≡ NotSetUp r → z.k ≢ 0 → ⊥
+  pub refused_head_has_nodes : (s : List ℕ) (r : Refusal) → Heads s → z.answer ≡ Err r → z.k ≢ 0 → ⊥
   refused_head_has_nodes s r q a h = h (ap (λ x. x.k) q ∙ ap (λ m. m.k) (setup_blank s r (answered s _ q a)))
 
   -- an accepted setup with other sizes than its bytes have
-  pub head_of_other_sizes : (s : List ℕ) (u : ℕ) → Heads s → z.answer ≡ Ready u → z.n ∷ z.p ∷ z.k ∷ [] ≢ get_or s 2 0 ∷ get_or s 3 0 ∷ get_or s 4 0 ∷ [] → ⊥
+  pub head_of_other_sizes : (s : List ℕ) (u : ℕ) → Heads s → z.answer ≡ Ok u → z.n ∷ z.p ∷ z.k ∷ [] ≢ get_or s 2 0 ∷ get_or s 3 0 ∷ get_or s 4 0 ∷ [] → ⊥
   head_of_other_sizes s u q a h =
       let t = taken s u (answered s _ q a) in
       h (rw (ap (λ x. x.n) q ∙ t.n, ap (λ x. x.p) q ∙ t.p, ap (λ x. x.k) q ∙ t.k))
 
   -- a setup that takes other bytes for its own than 6 and the 4 of each value
-  pub head_uses_other_bytes : (s : List ℕ) (u : ℕ) → Heads s → z.answer ≡ Ready u → u ≢ 6 + 4 * z.n → ⊥
+  pub head_uses_other_bytes : (s : List ℕ) (u : ℕ) → Heads s → z.answer ≡ Ok u → u ≢ 6 + 4 * z.n → ⊥
   head_uses_other_bytes s u q a h = let t = taken s u (answered s _ q a) in h (omega (arith, t.used, t.n, ap (λ x. x.n) q))
 
   -- a setup that uses more bytes than there are
-  pub head_past_the_end : (s : List ℕ) (u : ℕ) → Heads s → z.answer ≡ Ready u → length s < u → ⊥
+  pub head_past_the_end : (s : List ℕ) (u : ℕ) → Heads s → z.answer ≡ Ok u → length s < u → ⊥
   head_past_the_end s u q a h = omega (arith, setup_uses s u (answered s _ q a), h)
 
   -- 11 for a setup whose spare byte isn't zero: 15 is due, whatever the sizes
-  pub eleven_for_fifteen : (s : List ℕ) → Heads s → get_or s 5 0 ≢ 0 → z.answer ≡ NotSetUp Sizes → ⊥
+  pub eleven_for_fifteen : (s : List ℕ) → Heads s → get_or s 5 0 ≢ 0 → z.answer ≡ Err Sizes → ⊥
   eleven_for_fifteen s q n a = n (spare_zero s (answered s _ q a))
 
   -- a setup that is accepted though its values are cut, be it by one byte
-  pub cut_setup_accepted : (s : List ℕ) (u : ℕ) → Heads s → length s < 6 + 4 * get_or s 2 0 → z.answer ≡ Ready u → ⊥
+  pub cut_setup_accepted : (s : List ℕ) (u : ℕ) → Heads s → length s < 6 + 4 * get_or s 2 0 → z.answer ≡ Ok u → ⊥
   cut_setup_accepted s u q l a = let t = taken s u (answered s _ q a) in omega (arith, t.used, t.room, l)
 
   -- 20 for a setup with all of its values, even if no byte follows them
-  pub whole_setup_too_short : (s : List ℕ) → Heads s → 6 + 4 * get_or s 2 0 ≤ length s → z.answer ≡ NotSetUp TooShort → ⊥
+  pub whole_setup_too_short : (s : List ℕ) → Heads s → 6 + 4 * get_or s 2 0 ≤ length s → z.answer ≡ Err TooShort → ⊥
   whole_setup_too_short s q l a = omega (arith, too_short s (answered s _ q a), l)
 
   -- a setup whose mark's first byte isn't looked at
-  pub first_mark_byte_taken : (s : List ℕ) (u : ℕ) → Heads s → get_or s 0 0 ≢ 0x53 → z.answer ≡ Ready u → ⊥
+  pub first_mark_byte_taken : (s : List ℕ) (u : ℕ) → Heads s → get_or s 0 0 ≢ 0x53 → z.answer ≡ Ok u → ⊥
   first_mark_byte_taken s u q n a = n (taken s u (answered s _ q a)).first
 
   -- a setup whose mark's second byte isn't looked at
-  pub second_mark_byte_taken : (s : List ℕ) (u : ℕ) → Heads s → get_or s 1 0 ≢ 0x55 → z.answer ≡ Ready u → ⊥
+  pub second_mark_byte_taken : (s : List ℕ) (u : ℕ) → Heads s → get_or s 1 0 ≢ 0x55 → z.answer ≡ Ok u → ⊥
   second_mark_byte_taken s u q n a = n (taken s u (answered s _ q a)).second
 
   -- a setup that is accepted with a K below N+2P, be it by one
-  pub small_pool_accepted : (s : List ℕ) (u : ℕ) → Heads s → get_or s 4 0 < get_or s 2 0 + 2 * get_or s 3 0 → z.answer ≡ Ready u → ⊥
+  pub small_pool_accepted : (s : List ℕ) (u : ℕ) → Heads s → get_or s 4 0 < get_or s 2 0 + 2 * get_or s 3 0 → z.answer ≡ Ok u → ⊥
   small_pool_accepted s u q l a =
       omega (arith, (sizes_bounds (get_or s 2 0) (get_or s 3 0) (get_or s 4 0) (taken s u (answered s _ q a)).sizes).4, l)
 
   -- a setup that is refused though its sizes are in bounds, even if K is N+2P
-  pub sound_setup_refused : (n p k : ℕ) (vs : List ℕ) (r : Refusal) → InBounds n p k → length vs ≡ n → Heads (setup n p k vs) → z.answer ≡ NotSetUp r → ⊥
+  pub sound_setup_refused : (n p k : ℕ) (vs : List ℕ) (r : Refusal) → InBounds n p k → length vs ≡ n → Heads (setup n p k vs) → z.answer ≡ Err r → ⊥
   sound_setup_refused n p k vs r b l q a = let e = sym (takes n p k vs b l) ∙ answered (setup n p k vs) _ q a in never cc
 
   -- the same of the small setup, whose K is N+2P
-  pub small_setup_refused : (r : Refusal) → Heads small → z.answer ≡ NotSetUp r → ⊥
+  pub small_setup_refused : (r : Refusal) → Heads small → z.answer ≡ Err r → ⊥
   unfolding computing
   small_setup_refused r q a = let e = answered small _ q a in never cc
 
@@ -216,23 +215,23 @@ module _ (κs : Lfts 4) (z : Laid) (cs vs ns cells values counts : List ℕ) whe
   abbrev Lays : List ℕ → Type 0
   Lays s = fill.Post κs (lent s, (lent_mut cs, (lent_mut vs, (lent_mut ns, tt)))) z (lent s, (lent_mut cells, (lent_mut values, (lent_mut counts, tt))))
 
-  blank : (s : List ℕ) (r : Refusal) → Lays s → z.answer ≡ NotSetUp r → (setup_of s).machine ≡ blank_of
+  blank : (s : List ℕ) (r : Refusal) → Lays s → z.answer ≡ Err r → (setup_of s).machine ≡ blank_of
   blank s r q a = setup_blank s r (sym (ap (λ x. x.answer) q.0) ∙ a)
 
   -- a refused setup after which a cell holds what it held
-  pub refused_setup_keeps_cell : (s : List ℕ) (r : Refusal) (i : ℕ) → Lays s → z.answer ≡ NotSetUp r → get_or cells i 0 ≢ 0 → ⊥
+  pub refused_setup_keeps_cell : (s : List ℕ) (r : Refusal) (i : ℕ) → Lays s → z.answer ≡ Err r → get_or cells i 0 ≢ 0 → ⊥
   refused_setup_keeps_cell s r i q a h = h (ap (λ l. get_or l i 0) q.1 ∙ cell-past s i (omega (arith, ap (λ m. m.n) (blank s r q a))))
 
   -- a refused setup after which a node has the value that it had
-  pub refused_setup_keeps_value : (s : List ℕ) (r : Refusal) (i : ℕ) → Lays s → z.answer ≡ NotSetUp r → get_or values i 0 ≢ 0 → ⊥
+  pub refused_setup_keeps_value : (s : List ℕ) (r : Refusal) (i : ℕ) → Lays s → z.answer ≡ Err r → get_or values i 0 ≢ 0 → ⊥
   refused_setup_keeps_value s r i q a h = h (ap (λ l. get_or l i 0) q.2 ∙ value-past s i (omega (arith, ap (λ m. m.n) (blank s r q a))))
 
   -- a refused setup after which a node has the count that it had
-  pub refused_setup_keeps_count : (s : List ℕ) (r : Refusal) (i : ℕ) → Lays s → z.answer ≡ NotSetUp r → get_or counts i 0 ≢ 0 → ⊥
+  pub refused_setup_keeps_count : (s : List ℕ) (r : Refusal) (i : ℕ) → Lays s → z.answer ≡ Err r → get_or counts i 0 ≢ 0 → ⊥
   refused_setup_keeps_count s r i q a h = h (ap (λ l. get_or l i 0) q.3 ∙ count_past s i (omega (arith, ap (λ m. m.n) (blank s r q a), ap (λ m. m.p) (blank s r q a))))
 
   -- an accepted setup with other sizes than its bytes have
-  pub laid_with_other_sizes : (s : List ℕ) (u : ℕ) → Lays s → z.answer ≡ Ready u → z.n ∷ z.p ∷ z.k ∷ [] ≢ get_or s 2 0 ∷ get_or s 3 0 ∷ get_or s 4 0 ∷ [] → ⊥
+  pub laid_with_other_sizes : (s : List ℕ) (u : ℕ) → Lays s → z.answer ≡ Ok u → z.n ∷ z.p ∷ z.k ∷ [] ≢ get_or s 2 0 ∷ get_or s 3 0 ∷ get_or s 4 0 ∷ [] → ⊥
   laid_with_other_sizes s u q a h =
       let t = taken s u (sym (ap (λ x. x.answer) q.0) ∙ a) in
       h (rw (ap (λ x. x.n) q.0 ∙ t.n, ap (λ x. x.p) q.0 ∙ t.p, ap (λ x. x.k) q.0 ∙ t.k))
@@ -291,11 +290,11 @@ module _ (κs : Lfts 1) (z : SetUp) where
   Sets s = machine-setup.Post κs (lent s, tt) z (lent s, tt)
 
   -- a refused setup whose record has free nodes
-  pub refused_record_has_free : (s : List ℕ) (r : Refusal) → Sets s → z.answer ≡ NotSetUp r → z.machine.free ≢ 0 → ⊥
+  pub refused_record_has_free : (s : List ℕ) (r : Refusal) → Sets s → z.answer ≡ Err r → z.machine.free ≢ 0 → ⊥
   refused_record_has_free s r q a h = h (ap (λ x. x.machine.free) q ∙ ap (λ m. m.free) (setup_blank s r (sym (ap (λ x. x.answer) q) ∙ a)))
 
   -- a refused setup whose record has cells
-  pub refused_record_has_cells : (s : List ℕ) (r : Refusal) → Sets s → z.answer ≡ NotSetUp r → z.machine.n ≢ 0 → ⊥
+  pub refused_record_has_cells : (s : List ℕ) (r : Refusal) → Sets s → z.answer ≡ Err r → z.machine.n ≢ 0 → ⊥
   refused_record_has_cells s r q a h = h (ap (λ x. x.machine.n) q ∙ ap (λ m. m.n) (setup_blank s r (sym (ap (λ x. x.answer) q) ∙ a)))
 
   -- a record whose number of free nodes is off, be it by one

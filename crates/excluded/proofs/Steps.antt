@@ -5,7 +5,7 @@ use mathlib.Core.Path.{◌≡◌, ap}
 use Rattle.tasks.specs.declared.Task.{Task}
 use Rattle.tasks.specs.Records.{cell_no, node_no, with_fields}
 use Rattle.steps.specs.declared.Seen.{Seen}
-use Rattle.steps.specs.declared.Effect.{Effect}
+use Rattle.steps.specs.Types.{Effect}
 use Rattle.steps.specs.Table.{after, recounted_of, raised_of, lowered_of}
 use Rattle.steps.proofs.l1_step.Reads as l1-step
 use Rattle.steps.proofs.l2_step.Reads as l2-step

@@ -1,4 +1,5 @@
 -- Wrong answers of one entry over lent tables that the contracts rule out. Assumes nothing.
+use Rattle.std.specs.Prelude.{Err}
 use Prim.Native.Nat.{ℕ}
 use native.Mathlib.Omega.{arith}
 use mathlib.Core.Path.{◌≡◌, ap}
@@ -11,8 +12,7 @@ use Rattle.answers.specs.declared.Reply.TheVariants.{Moved, Took}
 use Rattle.answers.specs.Numbers.{number_of}
 use Rattle.tasks.specs.declared.Task.{Task}
 use Rattle.tasks.specs.Records.{cell_no, node_no}
-use Rattle.steps.specs.declared.Effect.{Effect}
-use Rattle.steps.specs.declared.Effect.TheVariants.{Refuses}
+use Rattle.steps.specs.Types.{Effect}
 use Rattle.steps.specs.declared.Write.TheVariants.{Count}
 use Rattle.steps.specs.Table.{does}
 use Rattle.tables.specs.Tables.{put_in}
@@ -31,19 +31,19 @@ module _ (κs : Lfts 3) (z : Turned) (cs vs ns : List ℕ) where
   Carries e = carry.Post κs (lent_mut cells, (lent_mut values, (lent_mut counts, (2, (at 12, (e, tt)))))) z (lent_mut cs, (lent_mut vs, (lent_mut ns, (2, (at 12, (e, tt))))))
 
   -- a refusal that writes a pointer
-  pub refusal_writes_cells : (r : Refusal) (i : ℕ) → Carries (Refuses r) → get_or cs i 0 ≢ get_or cells i 0 → ⊥
+  pub refusal_writes_cells : (r : Refusal) (i : ℕ) → Carries (Err r) → get_or cs i 0 ≢ get_or cells i 0 → ⊥
   refusal_writes_cells r i q h = h (ap (λ l. get_or l i 0) q.1)
 
   -- a refusal that writes a value
-  pub refusal_writes_values : (r : Refusal) (i : ℕ) → Carries (Refuses r) → get_or vs i 0 ≢ get_or values i 0 → ⊥
+  pub refusal_writes_values : (r : Refusal) (i : ℕ) → Carries (Err r) → get_or vs i 0 ≢ get_or values i 0 → ⊥
   refusal_writes_values r i q h = h (ap (λ l. get_or l i 0) q.2)
 
   -- a refusal that writes a count
-  pub refusal_writes_counts : (r : Refusal) (i : ℕ) → Carries (Refuses r) → get_or ns i 0 ≢ get_or counts i 0 → ⊥
+  pub refusal_writes_counts : (r : Refusal) (i : ℕ) → Carries (Err r) → get_or ns i 0 ≢ get_or counts i 0 → ⊥
   refusal_writes_counts r i q h = h (ap (λ l. get_or l i 0) q.3)
 
   -- a refusal that ends the task's call
-  pub refusal_ends_call : (r : Refusal) → Carries (Refuses r) → z.task.phase ≡ 0 → ⊥
+  pub refusal_ends_call : (r : Refusal) → Carries (Err r) → z.task.phase ≡ 0 → ⊥
   refusal_ends_call r q h = omega (arith, ap (λ d. d.task.phase) q.0, h)
 
   -- a count that is written to another node, here to m in place of the cursor's

@@ -1,18 +1,17 @@
 -- One number of an answer that has many, so that a wrong answer can be named by it.
-use Rattle.std.specs.Prelude.{ℕ, get_or, set}
+use Rattle.std.specs.Prelude.{ℕ, get_or, set, Result, Ok, Err}
 use Rattle.answers.specs.Numbers.{refusal_number, number_of, value_of}
 use Rattle.tasks.specs.declared.Task.{Task}
 use Rattle.tasks.specs.Records.{no_task}
-use Rattle.steps.specs.declared.Effect.{Effect}
+use Rattle.steps.specs.Types.{Effect}
 use Rattle.steps.specs.Table.{answer_of}
 use Rattle.entries.specs.declared.Asked.{Asked}
-use Rattle.entries.specs.declared.Asked.TheVariants.{ToGo, ToLoad, ToStore, ToRelease, ToValidate, Faulty}
+use Rattle.entries.specs.declared.Asked.TheVariants.{ToGo, ToLoad, ToStore, ToRelease, ToValidate}
 use Rattle.cells.specs.Machine.{cells_by, values_by, counts_by, free_by, task_by, write_by}
 use Rattle.runs.specs.declared.Report.{Report}
-use Rattle.runs.specs.declared.Outcome.{Outcome}
-use Rattle.runs.specs.declared.Outcome.TheVariants.{Refused as NotRun, Reported}
 use Rattle.runs.specs.Run.{report_of}
 use Rattle.excluded.specs.Records.{cells, values, counts}
+use Rattle.answers.specs.declared.Refusal.{Refusal}
 
 -- the task's record that an effect leaves; all zero if it is a refusal
 abbrev pub task_left : Effect → Task
@@ -54,24 +53,24 @@ abbrev pub free_left : Effect → ℕ
 free_left e = free_by (write_by e) 2
 
 -- the refusal that an entry's own numbers give, 0 if none
-abbrev pub fault_found : Asked → ℕ
+abbrev pub fault_found : Result Asked Refusal → ℕ
 fault_found ToGo = 0
 fault_found (ToLoad x) = 0
 fault_found (ToStore x y) = 0
 fault_found ToRelease = 0
 fault_found ToValidate = 0
-fault_found (Faulty r) = refusal_number r
+fault_found (Err r) = refusal_number r
 
 -- the kind of what it asks for, 5 if it is refused
-abbrev pub kind_asked : Asked → ℕ
+abbrev pub kind_asked : Result Asked Refusal → ℕ
 kind_asked ToGo = 0
 kind_asked (ToLoad x) = 1
 kind_asked (ToStore x y) = 2
 kind_asked ToRelease = 3
 kind_asked ToValidate = 4
-kind_asked (Faulty r) = 5
+kind_asked (Err r) = 5
 
 -- the report of an outcome: of a refused setup its refusal, and no entries
-abbrev pub report_told : Outcome → Report
-report_told (NotRun r) = report_of (refusal_number r)
-report_told (Reported x) = x
+abbrev pub report_told : Result Report Refusal → Report
+report_told (Err r) = report_of (refusal_number r)
+report_told (Ok x) = x

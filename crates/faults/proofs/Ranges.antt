@@ -1,11 +1,11 @@
 -- THE CURSOR PAST THE LAST NODE. A run tests the ranges once, at its start, and is right because an entry keeps them (`keeps_ranges` in `cells`). By a
 -- table whose S6 goes on without mod K an entry doesn't, and a run that tests once would not be right over it. Assumes nothing.
+use Rattle.std.specs.Prelude.{Ok, Err}
 use Prim.Native.Nat.{ℕ}
 use mathlib.Core.Path.{◌≡◌, refl}
 use mathlib.Core.Bool.{true, false, false≢true}
 use mathlib.Core.List.{List}
 use lib.ListN.{get_or, take}
-use Rattle.answers.specs.declared.Answer.TheVariants.{Replied, Refused}
 use Rattle.answers.specs.declared.Reply.TheVariants.{Took}
 use Rattle.answers.specs.declared.Refusal.TheVariants.{Damaged}
 use Rattle.tasks.specs.Records.{no_task}
@@ -30,15 +30,15 @@ unfolding computing afterwards last_node
 unwrapping_leaves = (refl, refl)
 
 -- An entry tests the ranges, so the next one is refused with 22, that of the other task too. A run that tests once would go on.
-pub unwrapping_damages : ((apply_of (afterwards unwrapping fresh last_node) (go 1)).answer ≡ Refused Damaged)
-    × ((apply_of (afterwards unwrapping fresh last_node) (go 0)).answer ≡ Refused Damaged)
+pub unwrapping_damages : ((apply_of (afterwards unwrapping fresh last_node) (go 1)).answer ≡ Err Damaged)
+    × ((apply_of (afterwards unwrapping fresh last_node) (go 0)).answer ≡ Err Damaged)
 unfolding computing afterwards last_node
 unwrapping_damages = (refl, refl)
 
 -- The mended table on these entries: the cursor goes round to node 0, the record stays in range, and the next entry ends the store with took.
 pub mended_wraps : ((get_or (afterwards mended fresh last_node).tasks 1 no_task).cursor.0 ≡ 0)
     × (in_range (afterwards mended fresh last_node) ≡ true)
-    × (answered mended fresh last_node (go 1) ≡ Replied Took)
+    × (answered mended fresh last_node (go 1) ≡ Ok Took)
 unfolding computing afterwards answered last_node
 mended_wraps = (refl, refl, refl)
 

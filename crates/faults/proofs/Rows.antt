@@ -1,4 +1,5 @@
 -- A bench by rows has no fault of its own: by the true rows it is the true one, on every record and all bytes. Assumes nothing.
+use Rattle.std.specs.Prelude.{Result, Ok, Err}
 use Prim.Native.Nat.{ℕ}
 use mathlib.Core.Path.{◌≡◌, refl, sym, ◌∙◌}
 use mathlib.Core.Bool.{true}
@@ -9,8 +10,6 @@ use borrow.Author.Tests.{lt-leb, ltb-true, eqb-true, not-true}
 use Rattle.tallies.proofs.Lists.{both, by_test}
 use Rattle.steps.specs.Table.{rows, no_phase, effect_of}
 use Rattle.entries.specs.declared.Entry.{Entry}
-use Rattle.entries.specs.declared.EntryRead.{EntryRead}
-use Rattle.entries.specs.declared.EntryRead.TheVariants.{Whole, Refused as Unread}
 use Rattle.entries.specs.Entry.{entry_of, nonzero, outside}
 use Rattle.entries.specs.Order.{call_of, order_of}
 use Rattle.tables.specs.Tables.{task_in}
@@ -19,6 +18,7 @@ use Rattle.cells.specs.declared.Applied.{Applied}
 use Rattle.cells.specs.Machine.{seen_of, carried_of, in_range}
 use Rattle.cells.specs.Apply.{judged_of, decision_of, apply_of}
 use Rattle.faults.specs.Benches.{as_written, table, step_by, goes, read_by, apply_by}
+use Rattle.answers.specs.declared.Refusal.{Refusal}
 
 -- what the order of refusals makes of an entry
 abbrev obeyed : Machine → Entry → Applied
@@ -38,13 +38,13 @@ step_own m e h =
     )
 
 -- bytes that are read as an entry, on a record in range
-whole : (m : Machine) (s : List ℕ) (e : Entry) → in_range m ≡ true → entry_of s ≡ Whole e → apply_of m s ≡ obeyed m e
+whole : (m : Machine) (s : List ℕ) (e : Entry) → in_range m ≡ true → entry_of s ≡ Ok e → apply_of m s ≡ obeyed m e
 unfolding apply_of decision_of judged_of
 whole m s e h k = rw (h, k)
 
-read_own : (m : Machine) (s : List ℕ) (r : EntryRead) → in_range m ≡ true → entry_of s ≡ r → read_by table m s r ≡ apply_of m s
-read_own m s (Unread r) h k = refl
-read_own m s (Whole e) h k = by_test (λ a. a ≡ apply_of m s) (goes m e) _ _ (λ g. step_own m e g ∙ sym (whole m s e h k)) (λ g. refl)
+read_own : (m : Machine) (s : List ℕ) (r : Result Entry Refusal) → in_range m ≡ true → entry_of s ≡ r → read_by table m s r ≡ apply_of m s
+read_own m s (Err r) h k = refl
+read_own m s (Ok e) h k = by_test (λ a. a ≡ apply_of m s) (goes m e) _ _ (λ g. step_own m e g ∙ sym (whole m s e h k)) (λ g. refl)
 
 pub own-rows : (m : Machine) (s : List ℕ) → apply_by table m s ≡ apply_of m s
 unfolding apply_by

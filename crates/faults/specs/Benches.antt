@@ -1,18 +1,16 @@
 -- Step benches over the same record and the same bytes: the true table, and five tables with a fault. Only steps differ:
 -- setup, starting a call and all that is refused before a step are the true ones.
-use Rattle.std.specs.Prelude.{ℕ, ◌+◌, Bool, cond, not, ◌&&◌, List, map, eqb, ltb, get_or, set}
+use Rattle.std.specs.Prelude.{ℕ, ◌+◌, Bool, cond, not, ◌&&◌, List, map, eqb, ltb, get_or, set, Result, Ok, Err}
 use Rattle.tallies.specs.Lists.{every, fill_to}
 use Rattle.wire.specs.Bytes.{marked, word_at}
 use Rattle.answers.specs.declared.Reply.TheVariants.{Moved, Loaded, Good, Gone}
 use Rattle.tasks.specs.declared.Task.{Task}
 use Rattle.tasks.specs.Records.{node_no, onward, holding, probing, task_ok}
-use Rattle.steps.specs.declared.Effect.{Effect}
+use Rattle.steps.specs.Types.{Effect}
 use Rattle.steps.specs.declared.Write.TheVariants.{Nothing, Point, Value}
 use Rattle.steps.specs.Table.{Row as TableRow, does, counting, raising, s6, no_phase, rows, effect_of, after, recounted_of, raised_of, lowered_of}
 use Rattle.tables.specs.Tables.{node_in, count_in, value_in, task_in, sizes_ok}
 use Rattle.entries.specs.declared.Entry.{Entry}
-use Rattle.entries.specs.declared.EntryRead.{EntryRead}
-use Rattle.entries.specs.declared.EntryRead.TheVariants.{Whole, Refused as Unread}
 use Rattle.entries.specs.Entry.{entry_of, nonzero, outside}
 use Rattle.entries.specs.Order.{load_of, store_of, linked_call_of, call_of, order_of}
 use Rattle.cells.specs.declared.Machine.{Machine}
@@ -21,6 +19,7 @@ use Rattle.cells.specs.Machine.{seen_of, carried_of, in_range}
 use Rattle.cells.specs.Apply.{judged_of, decision_of, apply_of}
 use Rattle.cells.specs.Setup.{fresh_of, setup_of}
 use Rattle.laws.specs.Acts.{checked}
+use Rattle.answers.specs.declared.Refusal.{Refusal}
 
 -- a row that may look at the whole record
 abbrev pub Row : Type 0
@@ -44,9 +43,9 @@ abbrev pub goes : Machine → Entry → Bool
 goes m e = ltb e.task.0 m.p && (eqb e.kind 0 && not (nonzero e))
 
 -- a go by the given rows, every other entry as ever
-abbrev pub read_by : List Row → Machine → List ℕ → EntryRead → Applied
-read_by rs m s (Unread r) = apply_of m s
-read_by rs m s (Whole e) = cond (goes m e) (step_by rs m e) (apply_of m s)
+abbrev pub read_by : List Row → Machine → List ℕ → Result Entry Refusal → Applied
+read_by rs m s (Err r) = apply_of m s
+read_by rs m s (Ok e) = cond (goes m e) (step_by rs m e) (apply_of m s)
 
 unfoldable pub apply_by : List Row → Machine → List ℕ → Applied
 apply_by rs m s = cond (in_range m) (read_by rs m s (entry_of s)) (apply_of m s)

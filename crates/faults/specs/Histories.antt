@@ -1,6 +1,6 @@
 -- What a schedule does in figure 1's terms, under any bench: each call begins with its accepted entry, acts once, ends with its reply.
 use Rattle.std.specs.Prelude.{ℕ, List, [], ◌∷◌, ◌++◌}
-use Rattle.answers.specs.declared.Answer.{Answer}
+use Rattle.answers.specs.Types.{Answer}
 use Rattle.cells.specs.declared.Machine.{Machine}
 use Rattle.figure1.specs.Histories.{Event}
 use Rattle.laws.specs.Acts.{acts_where, events_in}

@@ -8,8 +8,8 @@ ghost use Rattle.texts.specs.Made.{answered, laid, text_number};
 ghost use Rattle.texts.specs.Text.{imported, exported};
 ghost use Rattle.kemilunda.specs.Exported.{setup_refusal, setup_used, numbers_after, written_by};
 
-use runs::{Outcome, Report};
-use texts::TextAnswer;
+use answers::Refusal;
+use runs::Report;
 
 // 0 for a setup that is accepted, else its refusal.
 pub fn kemilunda_setup(input: &[u8]) -> u32
@@ -52,8 +52,8 @@ pub fn kemilunda_run_free(
     ensures { (result ≡ setup_refusal input.now) × (replies.new ≡ replies_after input.now replies.old) × (free_nodes.new ≡ free_nodes_after input.now (length replies.old) free_nodes.old) × (numbers.new ≡ numbers_after input.now (length replies.old) numbers.old) }
 {
     match runs::run_input(input, replies, free_nodes) {
-        Outcome::Refused(r) => answers::refusal_number(r) as u32,
-        Outcome::Reported(report) => {
+        Err(r) => answers::refusal_number(r) as u32,
+        Ok(report) => {
             *numbers = six(report);
             0
         }
@@ -69,13 +69,13 @@ pub fn kemilunda_run(input: &[u8], replies: &mut [u8], numbers: &mut [u32; 6]) -
 }
 
 // The number of an import's or export's answer; its length goes to its own place, which a refusal leaves alone.
-fn told(a: TextAnswer, written: &mut usize) -> u32
+fn told(a: Result<usize, Refusal>, written: &mut usize) -> u32
     ensures { (result ≡ text_number a) × (written.new ≡ written_by a written.old) }
 {
     let number = texts::text_number(a) as u32;
     match a {
-        TextAnswer::NotWritten(_) => number,
-        TextAnswer::Written(n) => {
+        Err(_) => number,
+        Ok(n) => {
             *written = n;
             number
         }

@@ -1,4 +1,5 @@
 -- A record that is `Kept` takes exactly the entries that fit it. Assumes nothing.
+use Rattle.std.specs.Prelude.{Result, Ok, Err}
 use Prim.Native.Nat.{ℕ, ◌≤◌}
 use native.Mathlib.Omega.{arith}
 use mathlib.Core.Path.{◌≡◌, refl, sym, ◌∙◌}
@@ -18,7 +19,7 @@ use Rattle.tables.specs.Tables.{task_in}
 use Rattle.cells.specs.Machine.{seen_of, carried_of, in_range}
 use Rattle.cells.specs.Apply.{judged_of, decision_of, carried_by, apply_of}
 use Rattle.runs.specs.Counts.{accepted, kind_of, task_of}
-use Rattle.laws.specs.Types.{Refusal, NoTask, NoKind, NoCell, NotZero, NotNow, Task, Effect, Does, Refuses, Entry, EntryRead, Machine, Decision}
+use Rattle.laws.specs.Types.{Refusal, NoTask, NoKind, NoCell, NotZero, NotNow, Task, Effect, Entry, Machine, Decision}
 use Rattle.laws.specs.Kept.{Kept}
 use Rattle.laws.specs.Accepts.{May, go, load, store, release, validate, Fits}
 use Rattle.laws.proofs.Entries.{task_no}
@@ -45,7 +46,7 @@ module _ (m : Machine) (K : Kept m) (e : List ℕ) where
   abbrev Taken : Effect → Type 0
   Taken x = accepted (carried_of m (task_no e) x).answer ≡ true
 
-  abbrev Read : EntryRead → Type 0
+  abbrev Read : Result Entry Refusal → Type 0
   Read r = accepted (carried_by m (judged_of m.n m.p (task_in m.tasks) (seen_of m) r)).answer ≡ true
 
   module _ (f : Fits m e) where
@@ -84,8 +85,8 @@ module _ (m : Machine) (K : Kept m) (e : List ℕ) where
     -- a step is made where a call runs
     made : resting t.phase ≡ false → (x : Effect) → Steady m K t.phase x → Taken x
     unfolding carried_of
-    made r (Does d) s = refl
-    made r (Refuses w) s = absurd (rw r at s.1)
+    made r (Ok d) s = refl
+    made r (Err w) s = absurd (rw r at s.1)
 
     called : May m e → Taken (call_of entry t (seen_of m t))
     unfolding call_of load_of store_of linked_call_of carried_of
@@ -110,7 +111,7 @@ module _ (m : Machine) (K : Kept m) (e : List ℕ) where
   abbrev Told : Effect → Type 0
   Told x = Taken x → May m e
 
-  no : {A : Type 0} (r : Refusal) → Taken (Refuses r) → A
+  no : {A : Type 0} (r : Refusal) → Taken (Err r) → A
   unfolding carried_of
   no r h = absurd (false≢true h)
 
@@ -158,8 +159,8 @@ module _ (m : Machine) (K : Kept m) (e : List ℕ) where
   unfolding apply_of decision_of judged_of carried_of order_of entry_of
   fits =
       by_test (λ (d : Decision). accepted (carried_by m d).answer ≡ true → Fits m e) (not (in_range m)) _ _ (λ q h. absurd (false≢true h))
-      (λ q. by_test (λ (r : EntryRead). Read r → Fits m e) (ltb (length e) 10) _ _ (λ w h. absurd (false≢true h))
-      (λ w. by_test (λ (r : EntryRead). Read r → Fits m e) (not (marked entry_mark e)) _ _ (λ x h. absurd (false≢true h))
+      (λ q. by_test (λ (r : Result Entry Refusal). Read r → Fits m e) (ltb (length e) 10) _ _ (λ w h. absurd (false≢true h))
+      (λ w. by_test (λ (r : Result Entry Refusal). Read r → Fits m e) (not (marked entry_mark e)) _ _ (λ x h. absurd (false≢true h))
       (λ x. by_test Fit (leb m.p (get_or e 2 0)) _ _ (λ a. no NoTask)
       (λ a. by_test Fit (ltb 4 (kind_of e)) _ _ (λ b. no NoKind)
       (λ b. by_test Fit (nonzero entry) _ _ (λ c. no NotZero)

@@ -1,4 +1,5 @@
 -- The places past N, P and K stay zero, and what stands there makes no difference to an entry. Assumes nothing.
+use Rattle.std.specs.Prelude.{Result, Ok, Err}
 use Prim.Native.Nat.{ℕ, ◌+◌, ◌≤◌, ◌<◌}
 use native.Mathlib.Omega.{arith}
 use native.Mathlib.Decide.{dec_le, dec_lt, ℕ_discrete}
@@ -20,7 +21,7 @@ use Rattle.cells.specs.Apply.{judged_of, guarded, decision_of, carried_by, apply
 use Rattle.cells.specs.Setup.{fresh_of}
 use Rattle.cells.proofs.Decide.{guarded-same}
 use Rattle.runs.specs.Counts.{task_of}
-use Rattle.laws.specs.Types.{TaskNo, Task, Write, Nothing, Point, Count, Value, Effect, Does, Refuses, Entry, EntryRead, Whole, Unread, Machine, Decision}
+use Rattle.laws.specs.Types.{TaskNo, Task, Write, Nothing, Point, Count, Value, Effect, Entry, Machine, Decision}
 use Rattle.laws.specs.Kept.{InRange, Kept}
 use Rattle.laws.specs.Schedules.{applied, Reached}
 use Rattle.laws.specs.Beyond.{Bare, Agree, Alike, Alike-after}
@@ -32,6 +33,7 @@ use Rattle.laws.proofs.Table.{row_proper, entry-keeps}
 use Rattle.cells.proofs.Fresh.{fresh_cell_past, fresh_value_past, fresh_count_past, fresh_task_past}
 use Rattle.laws.proofs.Start.{Sizes, by_setup, setup_kept}
 use Rattle.laws.proofs.Reached.{scheduled}
+use Rattle.answers.specs.declared.Refusal.{Refusal}
 
 -- THEY STAY ZERO
 
@@ -150,8 +152,8 @@ module _ (m : Machine) (cs vs ns : List ℕ) (ts : List Task) (C : Agree 0 m.n m
 
   carried_alike : (q : TaskNo) (x : Effect) → Alike-after (carried_of m q x) (carried_of m' q x)
   unfolding carried_of
-  carried_alike q (Refuses r) = record { answer = refl; task = refl; machine = alike }
-  carried_alike q (Does d) = record { answer = refl; task = refl; machine = written_alike q d.task d.write }
+  carried_alike q (Err r) = record { answer = refl; task = refl; machine = alike }
+  carried_alike q (Ok d) = record { answer = refl; task = refl; machine = written_alike q d.task d.write }
 
   range_same : in_range m ≡ in_range m'
   unfolding in_range
@@ -190,10 +192,10 @@ module _ (m : Machine) (cs vs ns : List ℕ) (ts : List Task) (C : Agree 0 m.n m
               ap (order_of m.n m.p e t) (seen_same t (task_range e.task.0 l)) ∙ ap (λ (u : Task). order_of m.n m.p e u (seen_of m' u)) (T.below e.task.0 l))
         ]
 
-    judged_same : (r : EntryRead) → judged_of m.n m.p (task_in m.tasks) (seen_of m) r ≡ judged_of m.n m.p (task_in ts) (seen_of m') r
+    judged_same : (r : Result Entry Refusal) → judged_of m.n m.p (task_in m.tasks) (seen_of m) r ≡ judged_of m.n m.p (task_in ts) (seen_of m') r
     unfolding judged_of
-    judged_same (Unread r) = refl
-    judged_same (Whole e) = ap (λ (x : Effect). record { task = e.task.0; effect = x }) (order_same e)
+    judged_same (Err r) = refl
+    judged_same (Ok e) = ap (λ (x : Effect). record { task = e.task.0; effect = x }) (order_same e)
 
   decision_same : (e : List ℕ) → decision_of m e ≡ decision_of m' e
   unfolding decision_of

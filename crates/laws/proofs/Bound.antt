@@ -1,4 +1,5 @@
 -- The steps spent in loads: two sums over the tasks pay for them (Sums), whatever the entries and whichever cells are counted. Assumes nothing.
+use Rattle.std.specs.Prelude.{Ok}
 use Prim.Native.Nat.{ℕ, ◌+◌, ◌≤◌, ◌<◌}
 use native.Mathlib.Omega.{arith}
 use native.Mathlib.Decide.{ℕ_discrete}
@@ -21,7 +22,7 @@ use Rattle.cells.specs.Machine.{seen_of, cells_after}
 use Rattle.cells.specs.Apply.{apply_of}
 use Rattle.cells.specs.Setup.{fresh_of, setup_of}
 use Rattle.runs.specs.Counts.{kind_of, task_of}
-use Rattle.laws.specs.Types.{Task, Call, Load, Store, Release, Validate, Moved, Nothing, Deed, Machine, Ready}
+use Rattle.laws.specs.Types.{Task, Call, Load, Store, Release, Validate, Moved, Nothing, Deed, Machine}
 use Rattle.laws.specs.Schedules.{applied, over}
 use Rattle.laws.proofs.Entries.{Asks, begun_by, stepped_by, by_entry}
 use Rattle.laws.proofs.Start.{by_setup}
@@ -131,7 +132,7 @@ module _ (on : ℕ → Bool) where
         fresh-none (stale on (fill_to (λ i. i) n (replicate 64 0))) n p h (λ i. omega arith),
       )
 
-  module _ (s : List ℕ) (used : ℕ) (ready : (setup_of s).answer ≡ Ready used) (es : List (List ℕ)) where
+  module _ (s : List ℕ) (used : ℕ) (ready : (setup_of s).answer ≡ Ok used) (es : List (List ℕ)) where
     abbrev m : Machine
     m = (setup_of s).machine
 

@@ -1,4 +1,5 @@
 -- What a count is, in a record that is reached: the holders question tied to the counts. Assumes nothing.
+use Rattle.std.specs.Prelude.{Some}
 use Prim.Native.Nat.{ℕ, ◌+◌, ◌≤◌, ◌<◌}
 use mathlib.Core.Path.{◌≡◌, ap}
 use mathlib.Core.List.{List}
@@ -8,7 +9,6 @@ use lib.Seq.{length-take-le}
 use borrow.Author.Tests.{le-ltb}
 use Rattle.tallies.specs.Tally.{tally}
 use Rattle.tallies.proofs.Tally.{tally-add, tally-take}
-use Rattle.tasks.specs.declared.HolderCount.TheVariants.{Count}
 use Rattle.tasks.specs.Records.{node_no}
 use Rattle.tasks.specs.Holders.{keeps, holders_of, held_among, holders_value}
 use Rattle.laws.specs.Types.{Task, Machine}
@@ -17,11 +17,11 @@ use Rattle.laws.specs.Schedules.{Reached}
 use Rattle.laws.proofs.Reached.{reached_kept}
 
 -- the holders question of a table's first p records, where neither is refused
-pub held_is : (ts : List Task) (p i : ℕ) → p ≤ 16 → p ≤ length ts → i ≤ 127 → held_among ts p (node_no i) ≡ Count (tally (keeps i) p ts)
+pub held_is : (ts : List Task) (p i : ℕ) → p ≤ 16 → p ≤ length ts → i ≤ 127 → held_among ts p (node_no i) ≡ Some (tally (keeps i) p ts)
 unfolding held_among holders_of
 held_is ts p i few long h =
     let n : length (take p ts) ≡ p = length-take-le p ts long in
-    rw (le-ltb 16 p few, n, le-ltb 16 p few, le-ltb 127 i h) (ap Count (tally-take (keeps i) p ts))
+    rw (le-ltb 16 p few, n, le-ltb 16 p few, le-ltb 127 i h) (ap Some (tally-take (keeps i) p ts))
 
 module _ {m : Machine} (r : Reached m) where
   -- a count is the cells that point at the node, the tasks whose own field is in use and names it, those that have just swapped it out, and its holders

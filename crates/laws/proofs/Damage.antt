@@ -1,4 +1,5 @@
 -- Refusal 22 is never met by a record that is `Kept`: not by its ranges, not by a step, not in a run. Assumes nothing.
+use Rattle.std.specs.Prelude.{Ok, Err}
 use Prim.Native.Nat.{ℕ, ◌+◌, ◌-◌, ◌≤◌, ◌<◌}
 use native.Mathlib.Omega.{arith}
 use mathlib.Core.Path.{◌≡◌, refl, sym, ◌∙◌}
@@ -18,7 +19,7 @@ use Rattle.steps.specs.Table.{after, free_after, recounted_of, raised_of, lowere
 use Rattle.cells.specs.Machine.{seen_of}
 use Rattle.cells.specs.Apply.{apply_of}
 use Rattle.runs.specs.Run.{ran_of}
-use Rattle.laws.specs.Types.{Replied, Refused, Reply, Moved, Lost, Released, NoStep, Damaged, NodeNo, Task, Seen, Count, To, Effect, Does, Refuses, Machine}
+use Rattle.laws.specs.Types.{Reply, Moved, Lost, Released, NoStep, Damaged, NodeNo, Task, Seen, Count, Effect, Machine}
 use Rattle.laws.specs.Kept.{Kept}
 use Rattle.laws.proofs.Phases.{by_phase}
 use Rattle.laws.proofs.Entries.{Damage, by_range, by_step, by_entry}
@@ -31,8 +32,8 @@ use Rattle.laws.proofs.Runs.{run-never}
 module _ (m : Machine) (K : Kept m) where
   -- a step is made, or the task is idle or linked
   abbrev pub Steady : ℕ → Effect → Type 0
-  Steady f (Does d) = Unit {0}
-  Steady f (Refuses r) = (r ≡ NoStep) × T (resting f)
+  Steady f (Ok d) = Unit {0}
+  Steady f (Err r) = (r ≡ NoStep) × T (resting f)
 
   module _ (q : ℕ) (hq : q < m.p) where
     abbrev t : Task
@@ -45,7 +46,7 @@ module _ (m : Machine) (K : Kept m) where
     c = get_or m.counts t.held.0 0
 
     -- the count of a node below K can go anywhere, as far as the number of free nodes is concerned
-    recounts : (v : NodeNo) (c d : ℕ) → v.0 < m.k → get_or m.counts v.0 0 ≡ c → recounted_of s v c d ≡ To (Count v d (free_after m.free c d)) d
+    recounts : (v : NodeNo) (c d : ℕ) → v.0 < m.k → get_or m.counts v.0 0 ≡ c → recounted_of s v c d ≡ Ok (Count v d (free_after m.free c d), d)
     unfolding recounted_of
     recounts v c d h e =
         let after = rw e at (freed m K v.0 d h) in
@@ -90,11 +91,11 @@ module _ (m : Machine) (K : Kept m) where
         t.phase (K.sound.each q hq).phase refl
 
   -- no entry is answered with 22, neither by the ranges nor by the step
-  pub entry_undamaged : (e : List ℕ) → (apply_of m e).answer ≢ Refused Damaged
-  entry_undamaged e = by_entry m e (λ a. a.answer ≢ Refused Damaged) (λ i r w q. neither (w (cc)))
+  pub entry_undamaged : (e : List ℕ) → (apply_of m e).answer ≢ Err Damaged
+  entry_undamaged e = by_entry m e (λ a. a.answer ≢ Err Damaged) (λ i r w q. neither (w (cc)))
       (λ a h. clash Moved) (λ a h. clash Moved) (λ a. clash Lost) (λ a. clash Moved) (λ a. clash Moved) (λ d s. clash d.reply)
     where
-      clash : (r : Reply) → Replied r ≢ Refused Damaged
+      clash : (r : Reply) → Ok r ≢ Err Damaged
       clash r q = let z : ◌≡◌ {A = ℕ} 0 1 = cc in omega arith
 
       neither : Damage m e → ⊥

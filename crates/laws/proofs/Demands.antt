@@ -1,5 +1,6 @@
 -- What is proved, demand by demand of document 00: full statements, each proved in the file that its line cites. Nothing is assumed: a theorem
 -- takes any record and any bytes, or a setup that is accepted, or a record reached from one.
+use Rattle.std.specs.Prelude.{Result, Ok, Err}
 use Prim.Native.Nat.{ℕ, suc, ◌+◌, ◌*◌, ◌≤◌, ◌<◌, ◌-◌}
 use mathlib.Core.Path.{◌≡◌, refl}
 use mathlib.Core.Bool.{true, false, Bool}
@@ -13,7 +14,6 @@ use Rattle.tables.specs.Tables.{value_given}
 use Rattle.cells.specs.Machine.{seen_of, in_range, Long}
 use Rattle.cells.specs.Apply.{apply_of}
 use Rattle.cells.specs.Setup.{blank_of, setup_of}
-use Rattle.cells.specs.declared.free.FreeCount.TheVariants.{Free}
 use Rattle.cells.specs.Free.{free_nodes}
 use Rattle.cells.proofs.Ranges.{keeps_ranges}
 use Rattle.runs.specs.Counts.{accepted, kind_of, task_of, anywhere, loads_at, steps_at, turned_at, swaps_at}
@@ -28,13 +28,13 @@ use Rattle.figure1.specs.Engine.{history}
 use Rattle.figure1.proofs.Lift.{follows_split}
 use Rattle.figure1.proofs.Once.{finished, unfinished, in_order, cells_stay}
 use Rattle.figure1.proofs.Validate.{validate_decided, store_decided}
-use Rattle.laws.specs.Types.{Answer, Refused, Refusal, NoRoom, Damaged, TooLong, Deed, Machine, Ready, NotSetUp}
+use Rattle.laws.specs.Types.{Answer, Refusal, NoRoom, Damaged, TooLong, Deed, Machine}
 use Rattle.laws.specs.Acts.{Matches, finishes, events_of}
 use Rattle.laws.specs.Validate.{Validated}
 use Rattle.laws.specs.Schedules.{applied, tried, before, entry, Reached, Scheduled, over}
 use Rattle.laws.specs.Beyond.{Bare, Alike, Alike-after}
 use Rattle.laws.specs.Accepts.{Formed, Fits, StoreAnswered}
-use Rattle.laws.specs.Outcomes.{Asks, Loses, Outcome, Steps, lost_by}
+use Rattle.laws.specs.Outcomes.{Asks, Loses, Steps, lost_by}
 use Rattle.laws.specs.Moves.{Moves}
 use Rattle.laws.proofs.Entries.{outcome, refused_leaves}
 use Rattle.laws.proofs.Rows.{moves}
@@ -67,16 +67,17 @@ use Rattle.laws.proofs.Numbers.{run_starts, run_is, chain_loads, chain_steps, ch
 use Rattle.laws.proofs.Solo.{load_solo, store_sooner, release_solo, validate_solo}
 use Rattle.laws.proofs.Stored.{store_solo}
 use Rattle.laws.proofs.Sharp as Sharp
+use Rattle.runs.specs.declared.Report.{Report}
 
 -- DEMAND 1. Whatever is handed over is answered or refused with a number, and a refusal changes nothing beyond what its answer takes up.
 -- (That each function returns what these definitions give, for every input, is its own contract.)
 
 -- a refused entry leaves the machine: any record, any bytes (Entries)
-pub refused-entry : (m : Machine) (e : List ℕ) (r : Refusal) → (apply_of m e).answer ≡ Refused r → (apply_of m e).machine ≡ m
+pub refused-entry : (m : Machine) (e : List ℕ) (r : Refusal) → (apply_of m e).answer ≡ Err r → (apply_of m e).machine ≡ m
 refused-entry m e r q = refused_leaves m e (rw q refl)
 
 -- a refused setup gives a record of all zeros (Start)
-pub refused-setup : (s : List ℕ) (r : Refusal) → (setup_of s).answer ≡ NotSetUp r → (setup_of s).machine ≡ blank_of
+pub refused-setup : (s : List ℕ) (r : Refusal) → (setup_of s).answer ≡ Err r → (setup_of s).machine ≡ blank_of
 refused-setup = setup_blank
 
 -- a run leaves the reply buffer's length and every byte after its last reply (Runs)
@@ -100,7 +101,7 @@ refused-run m s out frees = (run_damaged m s out frees, run_long m s out frees, 
 
 -- no record reached from an accepted setup meets 22: not by its ranges (Ranges), not by a step, not in a run (Damage)
 pub never_damaged : {m : Machine} → Reached m
-    → (in_range m ≡ true) × ((e : List ℕ) → (apply_of m e).answer ≢ Refused Damaged) × ((s : List ℕ) (room : ℕ) → (ran_of m s room).report.refusal ≢ 22)
+    → (in_range m ≡ true) × ((e : List ℕ) → (apply_of m e).answer ≢ Err Damaged) × ((s : List ℕ) (room : ℕ) → (ran_of m s room).report.refusal ≢ 22)
 never_damaged {m} r = (in_range_lem m (reached_kept r), entry_undamaged m (reached_kept r), λ s room. run_undamaged m s room (reached_kept r))
 
 -- an entry, accepted or refused, keeps the ranges, from any record that is in range, reached from a setup or not, if its arrays have the lengths of
@@ -139,13 +140,13 @@ pub store_answers : {m : Machine} → Reached m → (e : List ℕ) → Formed m 
 store_answers {m} r e = store-answered m (reached_kept r) e
 
 -- an entry is refused, begins a call, is a store that is lost at once, or makes a step (Entries), and the step is its phase's row of the table (Rows)
-pub entry-does : (m : Machine) (e : List ℕ) → Outcome m e (apply_of m e)
+pub entry-does : (m : Machine) (e : List ℕ) → Result Report Refusal m e (apply_of m e)
 entry-does = outcome
 
 pub step_does : (m : Machine) (e : List ℕ) (d : Deed) → Steps m e d → Moves (task_of m e) (seen_of m (task_of m e)) (task_of m e).phase d
 step_does m e d s = moves (task_of m e) (seen_of m (task_of m e)) d s.does
 
-module _ (s : List ℕ) (used : ℕ) (ok : (setup_of s).answer ≡ Ready used) (es : List (List ℕ)) where
+module _ (s : List ℕ) (used : ℕ) (ok : (setup_of s).answer ≡ Ok used) (es : List (List ℕ)) where
   -- figure 1 with the setup's values, and the schedule's history
   abbrev pub first : State
   first = start (value_given s)
@@ -213,7 +214,7 @@ only_acts_change = cells_stay
 
 -- the same by runs: the i-th eight bytes that a run writes are the reply of the i-th entry that it tries, at the record after the entries before
 -- it, and that entry's events stand at the end of a legal history (Engine); and the record after the run is that after all it tried (Runs)
-module _ (s : List ℕ) (used : ℕ) (ok : (setup_of s).answer ≡ Ready used) (es : List (List ℕ)) (b out : List ℕ) (h : length b ≤ 65530) (k : 8 * entries_in b ≤ length out) where
+module _ (s : List ℕ) (used : ℕ) (ok : (setup_of s).answer ≡ Ok used) (es : List (List ℕ)) (b out : List ℕ) (h : length b ≤ 65530) (k : 8 * entries_in b ≤ length out) where
   abbrev pub fresh : Machine
   fresh = (setup_of s).machine
 
@@ -232,7 +233,7 @@ abbrev pub alone : ℕ → ℕ → Bool
 alone x y = eqb y x
 
 -- THE STEPS OF LOADS. Counted from the entries alone (runs/specs/Counts): loads begun, load steps, checks turned back, swaps that took.
-module _ (s : List ℕ) (bytes : ℕ) (ok : (setup_of s).answer ≡ Ready bytes) where
+module _ (s : List ℕ) (bytes : ℕ) (ok : (setup_of s).answer ≡ Ok bytes) where
   abbrev pub m : Machine
   m = (setup_of s).machine
 
@@ -329,7 +330,7 @@ module _ {m : Machine} (r : Reached m) where
   pub free_kept : m.free ≡ free m
   free_kept = (reached_kept r).free_counted
 
-  pub free-told : free_nodes m ≡ Free (free m)
+  pub free-told : free_nodes m ≡ Ok (free m)
   free-told = told_free m (reached_kept r)
 
   -- a run that asks after every entry it tries notes the full counts, as far as there is room for them

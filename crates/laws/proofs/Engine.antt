@@ -1,5 +1,6 @@
 -- The pool engine as an engine of figure 1: every schedule from an accepted setup has a legal history and leaves the record that matches it,
 -- and the replies that a run writes are those of the entries of such a history. Assumes nothing.
+use Rattle.std.specs.Prelude.{Result, Ok}
 use Prim.Native.Nat.{ℕ, ◌*◌, ◌≤◌, ◌<◌}
 use native.Mathlib.Omega.{arith}
 use mathlib.Core.Path.{◌≡◌, refl, ap, ◌∙◌}
@@ -21,7 +22,7 @@ use Rattle.figure1.specs.Calls.{Called}
 use Rattle.figure1.specs.Engine.{Engine, run, history}
 use Rattle.figure1.proofs.Lift.{lift, history-append}
 use Rattle.figure1.proofs.Once.{called}
-use Rattle.laws.specs.Types.{Machine, Ready}
+use Rattle.laws.specs.Types.{Machine}
 use Rattle.laws.specs.Kept.{Kept}
 use Rattle.laws.specs.Acts.{Matches, acts_from, finishes, each, events_in, events_of}
 use Rattle.laws.specs.Schedules.{applied, tried, before, entry}
@@ -53,7 +54,7 @@ run-applied [] m = refl
 run-applied (e ∷ es) m = run-applied es (apply_of m e).machine
 
 -- every schedule from an accepted setup
-module _ (s : List ℕ) (used : ℕ) (ok : (setup_of s).answer ≡ Ready used) (es : List (List ℕ)) where
+module _ (s : List ℕ) (used : ℕ) (ok : (setup_of s).answer ≡ Ok used) (es : List (List ℕ)) where
   pub follows : Follows (start (value_given s)) (history pool (setup_of s).machine es)
   follows = (lift pool es (setup_of s).machine (start (value_given s)) (setup_kept s used ok) (setup_matches s used ok)).0
 
@@ -75,7 +76,7 @@ answer-ends m e x =
     none q = absurd (omega (arith, ap length q))
 
 -- so the call that an answer finishes began in the schedule's history or at this entry, acted once since, and was given that result by figure 1
-pub answered : (s : List ℕ) (used : ℕ) → (setup_of s).answer ≡ Ready used → (es : List (List ℕ)) (e : List ℕ) (x : Result)
+pub answered : (s : List ℕ) (used : ℕ) → (setup_of s).answer ≡ Ok used → (es : List (List ℕ)) (e : List ℕ) (x : Result)
     → finishes (apply_of (applied (setup_of s).machine es) e).answer ≡ x ∷ []
     → (us : List Event) × (events_of (applied (setup_of s).machine es) e ≡ us ++ ends (get_or e 2 0) x ∷ [])
     × Called (get_or e 2 0) x (start (value_given s)) (history pool (setup_of s).machine es ++ us)
@@ -95,7 +96,7 @@ reply_bytes_lem m b out i r h k l =
     rw (replies-tried m b (length out) r h k, drop-append-le (8 * i) R _ (omega arith), take-append-le 8 (drop (8 * i) R) _ (rw length-drop (omega arith))) (reply_at (entries_of b) m i l)
 
 -- the i-th reply is that entry's, at the record after the entries before it, and its events stand at the end of a legal history
-module _ (s : List ℕ) (used : ℕ) (ok : (setup_of s).answer ≡ Ready used) (es : List (List ℕ)) (b out : List ℕ) (h : length b ≤ 65530) (k : 8 * entries_in b ≤ length out) where
+module _ (s : List ℕ) (used : ℕ) (ok : (setup_of s).answer ≡ Ok used) (es : List (List ℕ)) (b out : List ℕ) (h : length b ≤ 65530) (k : 8 * entries_in b ≤ length out) where
   abbrev m : Machine
   m = (setup_of s).machine
 

@@ -1,4 +1,5 @@
 -- One entry agrees with figure 1: its events are legal, and the record stays in the state that figure 1 is in. Assumes nothing.
+use Rattle.std.specs.Prelude.{Ok}
 use Prim.Native.Nat.{ℕ, ◌<◌}
 use native.Mathlib.Omega.{arith}
 use native.Mathlib.Decide.{ℕ_discrete}
@@ -22,9 +23,9 @@ use Rattle.runs.specs.Counts.{kind_of}
 use Rattle.figure1.specs.Figure1.{put, Call, load, store, release, validate, value, took, lost, released, good, gone, nobody}
 use Rattle.figure1.specs.Histories.{Status, quiet, asked, acted, State, Event, begins, acts, ends, act, after_all, Follows}
 use Rattle.figure1.proofs.Put.{put_same, put_other, put_in, set-put}
-use Rattle.laws.specs.Types.{Replied, Lost, TaskNo, Task, Nothing, Point, Value, Deed, Does, Machine}
+use Rattle.laws.specs.Types.{Lost, TaskNo, Task, Nothing, Point, Value, Deed, Machine}
 use Rattle.laws.specs.Meaning.{points, claims}
-use Rattle.laws.specs.Kept.{Ready, InRange, Kept}
+use Rattle.laws.specs.Kept.{InRange, Kept}
 use Rattle.laws.specs.Acts.{in_set, linked_at, standing, Matches, acts_from, ending, each, at_once, events_in, events_of}
 use Rattle.laws.proofs.Phases.{phase-gives}
 use Rattle.laws.proofs.Entries.{task_no, Unlinked, idle, elsewhere, by_entry}
@@ -46,7 +47,7 @@ abbrev pub whole : ℕ → ℕ → ℕ → List Event
 whole p x y = begins p (store x y) ∷ at_once p Lost
 
 -- which its entry's events are
-pub events-whole : (acting : ℕ → ℕ → Bool) (m m' : Machine) (e : List ℕ) → kind_of e ≡ 2 → events_in acting (Replied Lost) m m' e ≡ whole (get_or e 2 0) (get_or e 4 0) (word_at e 6)
+pub events-whole : (acting : ℕ → ℕ → Bool) (m m' : Machine) (e : List ℕ) → kind_of e ≡ 2 → events_in acting (Ok Lost) m m' e ≡ whole (get_or e 2 0) (get_or e 4 0) (word_at e 6)
 events-whole acting m m' e k = rw (k, k)
 
 -- a task without a link on x is not in S[x], wherever x points
@@ -173,7 +174,7 @@ module _ (m : Machine) (K : Kept m) (p : TaskNo) (hp : p.0 < m.p) (a : State) (M
   swap_acts : t ≡ at 8 → t.held.0 ≡ node x → Matches (written m p (at 9) (Point t.cell t.own)) (act a p.0 (asked (store x t.value)))
   swap_acts e q = rw (member_is 8 true refl e (eq-eqb (node x) t.held.0 (sym q))) (record {
     vals = λ y hy. set-put (λ v b. get_or m.values v 0 ≡ b) m.cells x t.own.0 0 a.cells.val t.value (in_cells m K in_t.cell)
-        (let w : Ready m.values (at 8) = rw e at (K.written p.0 hp) in w refl) y (λ n. M.vals y hy);
+        (let w : Ok m.values (at 8) = rw e at (K.written p.0 hp) in w refl) y (λ n. M.vals y hy);
     sets = λ y q hy hq. set-put (λ v g. linked_at v y (get_or (set m.tasks p.0 (at 9)) q no_task) ≡ g q) m.cells x t.own.0 0 a.cells.member nobody
         (in_cells m K in_t.cell) (every-task (λ i d. linked_at t.own.0 y d ≡ false) (at 9) refl q (λ n. gone y q hq))
         y (λ n. every-task (λ i d. linked_at (node y) y d ≡ a.cells.member y i) (at 9) (rw (ne_eqb x y (λ w. n (sym w))) at (link 8 e y hy)) q (λ k. M.sets y q hy hq));
@@ -250,7 +251,7 @@ module _ (m : Machine) (K : Kept m) (p : TaskNo) (hp : p.0 < m.p) (a : State) (M
   row_fits (v1_good q) e = validate-acts e true (eq-eqb (node x) t.held.0 (sym q))
   row_fits (v1_gone q) e = validate-acts e false (ne_eqb (node x) t.held.0 (λ w. q (sym w)))
 
-  pub step_fits : (d : Deed) → effect_of t (seen_of m t) ≡ Does d → Fits t.phase d
+  pub step_fits : (d : Deed) → effect_of t (seen_of m t) ≡ Ok d → Fits t.phase d
   step_fits d q = row_fits (moves t (seen_of m t) d q) refl
 
   -- a call begins

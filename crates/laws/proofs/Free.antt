@@ -1,4 +1,5 @@
 -- The free-nodes question is answered with the full count, of every record that is reached, and so are the questions that a run asks. Assumes nothing.
+use Rattle.std.specs.Prelude.{Ok}
 use Prim.Native.Nat.{ℕ, zero, suc, ◌+◌, ◌-◌, ◌*◌, ◌≤◌, ◌<◌}
 use native.Mathlib.Omega.{arith}
 use native.Mathlib.Decide.{dec_le}
@@ -9,7 +10,6 @@ use lib.ListN.{length, get_or, take, drop, length-append, length-take, length-dr
 use lib.Seq.{get_or-append-add, get_or-drop, get_or-take}
 use borrow.Author.Tests.{le-leb}
 use Rattle.tallies.proofs.Lists.{by_test, either}
-use Rattle.cells.specs.declared.free.FreeCount.TheVariants.{Free}
 use Rattle.cells.specs.Apply.{apply_of}
 use Rattle.cells.specs.Free.{free_of, free_nodes, free_value}
 use Rattle.runs.specs.Counts.{accepted}
@@ -22,9 +22,9 @@ use Rattle.laws.specs.Schedules.{applied, tried}
 use Rattle.laws.proofs.Table.{entry-keeps}
 use Rattle.laws.proofs.Ranges.{pool_ok_lem, in_range_lem}
 
-pub told_free : (m : Machine) → Kept m → free_nodes m ≡ Free (free m)
+pub told_free : (m : Machine) → Kept m → free_nodes m ≡ Ok (free m)
 unfolding free_of
-told_free m K = rw (pool_ok_lem m K) (ap Free K.free_counted)
+told_free m K = rw (pool_ok_lem m K) (ap Ok K.free_counted)
 
 -- one answer for each entry that is tried, and it is the full count after that entry
 pub notes_length : (es : List (List ℕ)) (m : Machine) → length (notes_from m es) ≡ length (tried m es)

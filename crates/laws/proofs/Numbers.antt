@@ -1,4 +1,5 @@
 -- A run's record and its six numbers are those of the entries that it tried. Assumes nothing.
+use Rattle.std.specs.Prelude.{Ok, Err}
 use Prim.Native.Nat.{ℕ, ◌+◌, ◌*◌, ◌≤◌}
 use native.Mathlib.Omega.{arith}
 use native.Mathlib.Nat.{zero-add, add-zero, add_assoc}
@@ -15,7 +16,7 @@ use Rattle.cells.specs.Apply.{apply_of}
 use Rattle.runs.specs.Counts.{accepted, anywhere, loads_at, steps_at, turned_at, swaps_at}
 use Rattle.entries.specs.Schedule.{entries_in, entries_of}
 use Rattle.runs.specs.Run.{report_of, counted, refused_at, ran_from, ran_of}
-use Rattle.laws.specs.Types.{Answer, Replied, Refused, Machine, Report, Ran}
+use Rattle.laws.specs.Types.{Answer, Machine, Report, Ran}
 use Rattle.laws.specs.Schedules.{applied, over, tried}
 use Rattle.laws.specs.Numbers.{accepted_at, refusal_in, last_refusal, numbers_of, start_refusal, tried_by, tried_all, over_runs}
 
@@ -26,12 +27,12 @@ over-append f [] es' m = omega arith
 over-append f (e ∷ es) es' m = omega (arith, over-append f es es' (apply_of m e).machine)
 
 taken : (a : Answer) → accepted a ≡ true → refusal_in a ≡ 0
-taken (Replied r) h = refl
-taken (Refused r) h = absurd (false≢true h)
+taken (Ok r) h = refl
+taken (Err r) h = absurd (false≢true h)
 
 given : (a : Answer) → accepted a ≡ false → refusal_in a ≡ number_of a
-given (Replied r) h = absurd (false≢true (sym h))
-given (Refused r) h = refl
+given (Ok r) h = absurd (false≢true (sym h))
+given (Err r) h = refl
 
 -- the numbers of a schedule on top of those counted before it; n where no entry is refused
 abbrev ended : ℕ → Machine → Report → List (List ℕ) → Ran

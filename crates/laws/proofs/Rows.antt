@@ -1,4 +1,5 @@
 -- A step that is made is one of the rows of specs/Moves. Nothing after this looks at a test or at a refused step again. Assumes nothing.
+use Rattle.std.specs.Prelude.{Result, Ok, Err}
 use Prim.Native.Nat.{ℕ, ◌+◌, ◌-◌, ◌≤◌, ◌<◌}
 use native.Mathlib.Omega.{arith}
 use native.Mathlib.Decide.{ℕ_discrete, dec_le}
@@ -12,31 +13,34 @@ use Rattle.tallies.specs.Tally.{bit}
 use Rattle.tasks.specs.Records.{onward, owning, probing}
 use Rattle.steps.specs.Table.{after, free_after, recounted_of, raised_of, lowered_of, counting, leaving, rows, no_phase, effect_of}
 use Rattle.steps.proofs.Rows.{effect_no_phase}
-use Rattle.laws.specs.Types.{Reply, Moved, Took, Lost, Released, NodeNo, Task, Seen, Count, Counted, To, Broken, Deed, Effect, Does, Refuses}
+use Rattle.laws.specs.Types.{Reply, Moved, Took, Lost, Released, NodeNo, Task, Seen, Count, Deed, Effect}
 pub use Rattle.laws.specs.Moves.{deed, raised, lowered, Moves, l1, l2, l3_passed, l3_turned, l4, l5, s1, s2_swapped, s2_missed, s3_took, s3_shared, s5, s6_took, s6_busy, s7, r1, v1_good, v1_gone}
 use Rattle.laws.proofs.Phases.{by_phase}
+use Rattle.answers.specs.declared.Refusal.{Refusal}
+use Rattle.steps.specs.declared.Write.{Write}
+use Rattle.answers.specs.declared.Refusal.TheVariants.{Damaged}
 
 -- a step that counts is refused, or the count and the number of free nodes are as they must be
 abbrev to_number : Seen → NodeNo → ℕ → ℕ → Counted
-to_number s v c d = To (Count v d (free_after s.free c d)) d
+to_number s v c d = Ok (Count v d (free_after s.free c d), d)
 
-pub by_recounted : (R : Counted → Type 0) (s : Seen) (v : NodeNo) (c d : ℕ) → R Broken → R (to_number s v c d) → R (recounted_of s v c d)
+pub by_recounted : (R : Counted → Type 0) (s : Seen) (v : NodeNo) (c d : ℕ) → R (Err Damaged) → R (to_number s v c d) → R (recounted_of s v c d)
 unfolding recounted_of
 by_recounted R s v c d b f = by_test R (ltb (s.free + bit (eqb d 0)) (bit (eqb c 0))) _ _ (λ q. b) (λ q. by_test R (ltb s.nodes (free_after s.free c d)) _ _ (λ w. b) (λ w. f))
 
-pub by_lowered : (R : Counted → Type 0) (s : Seen) (v : NodeNo) (c : ℕ) → R Broken → (0 < c → R (to_number s v c (c - 1))) → R (lowered_of s v c)
+pub by_lowered : (R : Counted → Type 0) (s : Seen) (v : NodeNo) (c : ℕ) → R (Err Damaged) → (0 < c → R (to_number s v c (c - 1))) → R (lowered_of s v c)
 unfolding lowered_of
 by_lowered R s v c b f = by_test R (eqb c 0) _ _ (λ q. b) (λ q. by_recounted R s v c (c - 1) b (f (omega (arith, eqb-false c 0 q))))
 
-pub by_raised : (R : Counted → Type 0) (s : Seen) (v : NodeNo) (c : ℕ) → R Broken → (c ≤ s.tasks → R (to_number s v c (c + 1))) → R (raised_of s v c)
+pub by_raised : (R : Counted → Type 0) (s : Seen) (v : NodeNo) (c : ℕ) → R (Err Damaged) → (c ≤ s.tasks → R (to_number s v c (c + 1))) → R (raised_of s v c)
 unfolding raised_of
 by_raised R s v c b f =
     by_test R (ltb s.tasks c) _ _ (λ q. b) (λ q. by_test R (eqb c 255) _ _ (λ w. b) (λ w. by_recounted R s v c (c + 1) b (f (ltb-false s.tasks c q))))
 
 module _ (t : Task) (s : Seen) where
   abbrev Reads : ℕ → Effect → Type 0
-  Reads n (Does d) = Moves t s n d
-  Reads n (Refuses r) = Unit {0}
+  Reads n (Ok d) = Moves t s n d
+  Reads n (Err r) = Unit {0}
 
   lowering_reads : (n : ℕ) (t' : Task) (r : Reply) → (0 < s.held_count → Moves t s n (lowered t s t' r)) → Reads n (counting (lowered_of s t.held s.held_count) t' r)
   lowering_reads n t' r f = by_lowered (λ c. Reads n (counting c t' r)) s t.held s.held_count tt f
@@ -68,5 +72,5 @@ module _ (t : Task) (s : Seen) where
       ]
 
   -- a step that is made is a row's
-  pub moves : (d : Deed) → effect_of t s ≡ Does d → Moves t s t.phase d
+  pub moves : (d : Deed) → effect_of t s ≡ Ok d → Moves t s t.phase d
   moves d q = rw q at reads

@@ -1,4 +1,5 @@
 -- The bounds are met: document 01's cases 10 and 11, computed from their bytes. Assumes nothing.
+use Rattle.std.specs.Prelude.{Ok, Err}
 use Prim.Native.Nat.{ℕ, zero, suc, ◌+◌, ◌-◌, ◌*◌}
 use native.Mathlib.Omega.{arith}
 use mathlib.Core.Path.{◌≡◌, refl}
@@ -22,7 +23,7 @@ use Rattle.cells.specs.Machine.{carried_of, in_range}
 use Rattle.cells.specs.Apply.{judged_of, decision_of, apply_of}
 use Rattle.cells.specs.Setup.{fresh_of, setup_of}
 use Rattle.runs.specs.Counts.{anywhere, loads_at, steps_at, swaps_at}
-use Rattle.laws.specs.Types.{Answer, Replied, Refused, Moved, Loaded, Took, Lost, Released, Good, Gone, Machine, Ready}
+use Rattle.laws.specs.Types.{Answer, Moved, Loaded, Took, Lost, Released, Good, Gone, Machine}
 use Rattle.laws.specs.Meaning.{used, free}
 use Rattle.laws.specs.Schedules.{applied, over, Reached, set_up, entered}
 use Rattle.laws.specs.Bytes.{go}
@@ -35,14 +36,14 @@ only_moves zero m p = true
 only_moves (suc n) m p = eqb (number_of (apply_of m (go p)).answer) 0 && only_moves n (apply_of m (go p)).machine p
 
 unfinished : (a : Answer) → number_of a ≡ 0 → Finished a → ⊥
-unfinished (Replied Moved) q f = f
-unfinished (Replied (Loaded v)) q f = omega arith
-unfinished (Replied Took) q f = omega arith
-unfinished (Replied Lost) q f = omega arith
-unfinished (Replied Released) q f = omega arith
-unfinished (Replied Good) q f = omega arith
-unfinished (Replied Gone) q f = omega arith
-unfinished (Refused r) q f = f
+unfinished (Ok Moved) q f = f
+unfinished (Ok (Loaded v)) q f = omega arith
+unfinished (Ok Took) q f = omega arith
+unfinished (Ok Lost) q f = omega arith
+unfinished (Ok Released) q f = omega arith
+unfinished (Ok Good) q f = omega arith
+unfinished (Ok Gone) q f = omega arith
+unfinished (Err r) q f = f
 
 late : (n : ℕ) (m : Machine) (p : ℕ) → only_moves n m p ≡ true → Within n m p → ⊥
 unfolding Within
@@ -50,7 +51,7 @@ late zero m p h w = w
 late (suc n) m p h (inl f) = unfinished (apply_of m (go p)).answer (eqb-true _ 0 (both _ _ h).0) f
 late (suc n) m p h (inr w) = late n (apply_of m (go p)).machine p (both (eqb (number_of (apply_of m (go p)).answer) 0) _ h).1 w.1
 
-pub ready : (setup_of small).answer ≡ Ready 10
+pub ready : (setup_of small).answer ≡ Ok 10
 unfolding setup_of marked sizes_ok
 ready = refl
 

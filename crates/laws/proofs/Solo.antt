@@ -1,4 +1,5 @@
 -- A task that moves alone ends its running call: one induction over the steps that are due. Assumes nothing.
+use Rattle.std.specs.Prelude.{Ok, Err}
 use Prim.Native.Nat.{ℕ, zero, suc, ◌+◌, ◌-◌, ◌*◌, ◌%◌, ◌≤◌, ◌<◌}
 use native.Mathlib.Omega.{arith}
 use native.Mathlib.Nat.{mod-lt, add-zero, add_assoc, mod-eq_of_lt, mod-add-mod}
@@ -21,7 +22,7 @@ use Rattle.tasks.specs.Phases.{resting, storing}
 use Rattle.steps.specs.Table.{after, effect_of}
 use Rattle.cells.specs.Machine.{seen_of, written, carried_of}
 use Rattle.cells.specs.Apply.{apply_of}
-use Rattle.laws.specs.Types.{Moved, Replied, NodeNo, Task, Seen, Deed, Effect, Does, Refuses, Machine}
+use Rattle.laws.specs.Types.{Moved, NodeNo, Task, Seen, Deed, Effect, Machine}
 use Rattle.laws.specs.Kept.{Kept}
 use Rattle.laws.specs.Bytes.{go}
 use Rattle.laws.specs.Solo.{Finished, Within}
@@ -106,7 +107,7 @@ module _ (p : ℕ) where
 
   -- what a step leads to, with n steps left after it
   abbrev Ends : ℕ → Machine → Deed → Type 0
-  Ends n m d = Finished (Replied d.reply) ⊎ ((Replied d.reply ≡ Replied Moved) × T (busy d.task.phase) × Enough n (stepped m d) d.task d.task.phase)
+  Ends n m d = Finished (Ok d.reply) ⊎ ((Ok d.reply ≡ Ok Moved) × T (busy d.task.phase) × Enough n (stepped m d) d.task d.task.phase)
 
   module _ (m : Machine) (K : Kept m) (hp : p < m.p) where
     abbrev t : Task
@@ -116,12 +117,12 @@ module _ (p : ℕ) where
     s = seen_of m t
 
     -- a running call is never stuck
-    can_step : T (busy t.phase) → (d : Deed) × (effect_of t s ≡ Does d)
+    can_step : T (busy t.phase) → (d : Deed) × (effect_of t s ≡ Ok d)
     can_step b = go (effect_of t s) refl (steady m K p hp)
       where
-        go : (x : Effect) → effect_of t s ≡ x → Steady m K t.phase x → (d : Deed) × (effect_of t s ≡ Does d)
-        go (Does d) q w = (d, q)
-        go (Refuses r) q w = absurd (none (resting t.phase) b w.1)
+        go : (x : Effect) → effect_of t s ≡ x → Steady m K t.phase x → (d : Deed) × (effect_of t s ≡ Ok d)
+        go (Ok d) q w = (d, q)
+        go (Err r) q w = absurd (none (resting t.phase) b w.1)
           where
             none : (c : Bool) → T (not c) → T c → ⊥
             none true h k = h

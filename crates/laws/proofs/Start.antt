@@ -1,4 +1,5 @@
 -- An accepted setup's record is fresh: it is `Kept`, and it is in the state in which figure 1 starts with the given values. Assumes nothing.
+use Rattle.std.specs.Prelude.{Ok, Err}
 use Prim.Native.Nat.{ℕ, ◌+◌, ◌-◌, ◌*◌, ◌≤◌, ◌<◌}
 use native.Mathlib.Omega.{arith}
 use native.Mathlib.Decide.{dec_lt}
@@ -19,7 +20,7 @@ use Rattle.cells.specs.Setup.{blank_of, fresh_of, setup_of}
 use Rattle.cells.proofs.Fresh.{fresh-long, fresh-cell, fresh-value, fresh_count, fresh_count_past, fresh-task}
 use Rattle.cells.proofs.Setups.{refused_or_ready}
 use Rattle.figure1.specs.Histories.{start}
-use Rattle.laws.specs.Types.{Refusal, Task, Machine, Ready, NotSetUp}
+use Rattle.laws.specs.Types.{Refusal, Task, Machine}
 use Rattle.laws.specs.Meaning.{points, claims, pointers, claimers, keepers, free}
 use Rattle.laws.specs.Kept.{Kept}
 use Rattle.laws.specs.Acts.{Matches}
@@ -131,18 +132,18 @@ module _ (n p k : ℕ) (s : List ℕ) (z : Sizes n p k) where
 
 -- what holds of every fresh record holds of an accepted setup's
 module _ (s : List ℕ) (used : ℕ) (R : Machine → Type 0) (f : (n p k : ℕ) → Sizes n p k → R (fresh_of n p k s)) where
-  pub by_setup : (setup_of s).answer ≡ Ready used → R (setup_of s).machine
+  pub by_setup : (setup_of s).answer ≡ Ok used → R (setup_of s).machine
   by_setup =
-      refused_or_ready s (λ x. x.answer ≡ Ready used → R x.machine) (λ r q. let z : ◌≡◌ {A = ℕ} 0 1 = cc in absurd (omega arith))
+      refused_or_ready s (λ x. x.answer ≡ Ok used → R x.machine) (λ r q. let z : ◌≡◌ {A = ℕ} 0 1 = cc in absurd (omega arith))
       (λ d e q. f _ _ _ (sizes (get_or s 2 0) (get_or s 3 0) (get_or s 4 0) (not-false _ d)))
 
-pub setup_kept : (s : List ℕ) (used : ℕ) → (setup_of s).answer ≡ Ready used → Kept (setup_of s).machine
+pub setup_kept : (s : List ℕ) (used : ℕ) → (setup_of s).answer ≡ Ok used → Kept (setup_of s).machine
 setup_kept s used = by_setup s used Kept (λ n p k z. fresh_kept n p k s z)
 
-pub setup_matches : (s : List ℕ) (used : ℕ) → (setup_of s).answer ≡ Ready used → Matches (setup_of s).machine (start (value_given s))
+pub setup_matches : (s : List ℕ) (used : ℕ) → (setup_of s).answer ≡ Ok used → Matches (setup_of s).machine (start (value_given s))
 setup_matches s used = by_setup s used (λ m. Matches m (start (value_given s))) (λ n p k z. fresh_matches n p k s z)
 
 -- a refused setup's record is all zeros
-pub setup_blank : (s : List ℕ) (r : Refusal) → (setup_of s).answer ≡ NotSetUp r → (setup_of s).machine ≡ blank_of
+pub setup_blank : (s : List ℕ) (r : Refusal) → (setup_of s).answer ≡ Err r → (setup_of s).machine ≡ blank_of
 setup_blank s r =
-    refused_or_ready s (λ x. x.answer ≡ NotSetUp r → x.machine ≡ blank_of) (λ x q. refl) (λ d e q. let z : ◌≡◌ {A = ℕ} 0 1 = cc in absurd (omega arith))
+    refused_or_ready s (λ x. x.answer ≡ Err r → x.machine ≡ blank_of) (λ x q. refl) (λ d e q. let z : ◌≡◌ {A = ℕ} 0 1 = cc in absurd (omega arith))

@@ -1,4 +1,5 @@
 -- What a store is answered, by its cell, its task's phase and link; and that one without a link is figure 1's false, at its own entry. Assumes nothing.
+use Rattle.std.specs.Prelude.{Ok, Err}
 use Prim.Native.Nat.{ℕ, ◌<◌}
 use native.Mathlib.Omega.{arith}
 use mathlib.Core.Path.{◌≡◌, refl, sym, ◌∙◌}
@@ -22,7 +23,7 @@ use Rattle.figure1.specs.Figure1.{Cells, store, lost, figure1}
 use Rattle.figure1.specs.Histories.{State, Event, after_all, given, start}
 use Rattle.figure1.specs.Engine.{history}
 use Rattle.figure1.proofs.Lift.{after-append}
-use Rattle.laws.specs.Types.{Task, Refuses, NoCell, Machine, Ready}
+use Rattle.laws.specs.Types.{Task, NoCell, Machine}
 use Rattle.laws.specs.Kept.{Kept}
 use Rattle.laws.specs.Acts.{acts_from, events_of}
 use Rattle.laws.specs.Accepts.{Formed, StoreAnswered, no_cell, not_now, unlinked, linked}
@@ -51,7 +52,7 @@ module _ (m : Machine) (K : Kept m) (e : List ℕ) (f : Formed m e) (k : kind_of
   cell = get_or e 4 0
 
   -- no earlier refusal is due
-  in_order : apply_of m e ≡ carried_of m (task_no e) (cond (leb m.n cell) (Refuses NoCell) (store_of t (cell_no cell) (word_at e 6)))
+  in_order : apply_of m e ≡ carried_of m (task_no e) (cond (leb m.n cell) (Err NoCell) (store_of t (cell_no cell) (word_at e 6)))
   unfolding apply_of decision_of judged_of order_of call_of entry_of nonzero outside
   in_order = rw (in_range_lem m K, le-ltb (length e) 10 f.whole, f.mark, lt-leb m.p (get_or e 2 0) f.task, k, f.zero)
 
@@ -78,7 +79,7 @@ unfolding events_of
 events_are m e q k = rw q (events-whole acts_from m m e k)
 
 -- over every schedule from an accepted setup
-module _ (s : List ℕ) (used : ℕ) (ok : (setup_of s).answer ≡ Ready used) (es : List (List ℕ)) (e : List ℕ) where
+module _ (s : List ℕ) (used : ℕ) (ok : (setup_of s).answer ≡ Ok used) (es : List (List ℕ)) (e : List ℕ) where
   abbrev present : Machine
   present = applied (setup_of s).machine es
 

@@ -1,4 +1,5 @@
 -- Every row of the step table and every call begun keep what `Kept` says beyond the ranges; Ranges has those, and so every entry keeps `Kept`. Assumes nothing.
+use Rattle.std.specs.Prelude.{Ok}
 use Prim.Native.Nat.{ℕ, ◌+◌, ◌-◌, ◌≤◌, ◌<◌}
 use native.Mathlib.Omega.{arith}
 use mathlib.Core.Path.{◌≡◌, refl, sym, ap, ◌∙◌}
@@ -18,7 +19,7 @@ use Rattle.tasks.specs.Holders.{keeps}
 use Rattle.steps.specs.Table.{after, effect_of}
 use Rattle.cells.specs.Machine.{seen_of}
 use Rattle.cells.specs.Apply.{apply_of}
-use Rattle.laws.specs.Types.{CellNo, NodeNo, TaskNo, Task, Load, Store, Release, Validate, Nothing, Point, Value, Deed, Does, Machine}
+use Rattle.laws.specs.Types.{CellNo, NodeNo, TaskNo, Task, Load, Store, Release, Validate, Nothing, Point, Value, Deed, Machine}
 use Rattle.laws.specs.Meaning.{points, claims, pointers}
 use Rattle.laws.specs.Kept.{InRange, Sound, Kept}
 use Rattle.laws.proofs.Phases.{implied}
@@ -168,7 +169,7 @@ module _ (m : Machine) (K : Kept m) (p : TaskNo) (hp : p.0 < m.p) where
   row_proper (v1_good q) = tt
   row_proper (v1_gone q) = tt
 
-  step_keeps : (d : Deed) → effect_of t (seen_of m t) ≡ Does d → KeptIfSound m p d.task d.write
+  step_keeps : (d : Deed) → effect_of t (seen_of m t) ≡ Ok d → KeptIfSound m p d.task d.write
   step_keeps d q = let r = moves t (seen_of m t) d q in stepped m K p hp t refl d.task d.write (row_keeps r refl) (row_proper r)
 
   -- a call begun changes the task's record, to one that claims, holds and owns what it did

@@ -1,4 +1,5 @@
 -- A validate's step is answered as figure 1 and source 004 have it: the record matches the sets, and on the sets the two agree. Assumes nothing.
+use Rattle.std.specs.Prelude.{Ok}
 use Prim.Native.Nat.{ℕ, suc}
 use native.Mathlib.Omega.{arith}
 use mathlib.Core.Path.{◌≡◌, refl, sym, ap, subst, ◌∙◌}
@@ -18,7 +19,7 @@ use Rattle.runs.specs.Counts.{accepted, kind_of, task_of}
 use Rattle.figure1.specs.Histories.{State, Event, after_all, start}
 use Rattle.figure1.specs.Engine.{history}
 use Rattle.figure1.proofs.Validate.{in_set_lem, unwritten_in}
-use Rattle.laws.specs.Types.{Replied, Answer, Task, Machine, Ready, Deed}
+use Rattle.laws.specs.Types.{Answer, Task, Machine, Deed}
 use Rattle.laws.specs.Outcomes.{Asks, Steps}
 use Rattle.laws.specs.Schedules.{applied}
 use Rattle.laws.specs.Validate.{Validated, good, gone}
@@ -27,7 +28,7 @@ use Rattle.laws.proofs.Start.{setup_kept}
 use Rattle.laws.proofs.Reached.{schedule-keeps}
 use Rattle.laws.proofs.Engine.{pool, matches}
 
-module _ (s : List ℕ) (used : ℕ) (ok : (setup_of s).answer ≡ Ready used) (es : List (List ℕ)) (e : List ℕ) where
+module _ (s : List ℕ) (used : ℕ) (ok : (setup_of s).answer ≡ Ok used) (es : List (List ℕ)) (e : List ℕ) where
   abbrev m : Machine
   m = applied (setup_of s).machine es
 
@@ -60,7 +61,7 @@ module _ (s : List ℕ) (used : ℕ) (ok : (setup_of s).answer ≡ Ready used) (
         let hx = ((schedule-keeps es (setup_of s).machine (setup_kept s used ok)).sound.each (get_or e 2 0) a.task).cell in
         sym ((matches s used ok es).sets x (get_or e 2 0) hx a.task) ∙ rw (a.phase, eq-eqb x x refl)
 
-    row : (d : Deed) → Steps m e d → Told (Replied d.reply)
+    row : (d : Deed) → Steps m e d → Told (Ok d.reply)
     unfolding rows
     row d w = subst Told (ap answer_of (sym (effect_at t (seen_of m t) 15 a.phase) ∙ w.does))
         (by_test (λ y. Told (answer_of y)) (eqb held here) _ _

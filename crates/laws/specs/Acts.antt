@@ -1,5 +1,5 @@
 -- A machine record in figure 1's terms: its values and sets, where each task's call stands, and the events of an entry.
-use Rattle.std.specs.Prelude.{ℕ, ◌<◌, ◌≡◌, Bool, true, false, cond, ◌&&◌, ◌||◌, List, [], ◌∷◌, ◌++◌, eqb, get_or}
+use Rattle.std.specs.Prelude.{ℕ, ◌<◌, ◌≡◌, Bool, true, false, cond, ◌&&◌, ◌||◌, List, [], ◌∷◌, ◌++◌, eqb, get_or, Result, Ok, Err}
 use Rattle.tallies.specs.Lists.{within}
 use Rattle.wire.specs.Bytes.{word_at}
 use Rattle.tasks.specs.Records.{no_task}
@@ -8,7 +8,7 @@ use Rattle.cells.specs.Apply.{apply_of}
 use Rattle.runs.specs.Counts.{kind_of, task_of}
 use Rattle.figure1.specs.Figure1.{Call, load, store, release, validate, Result, value, took, lost, released, good, gone}
 use Rattle.figure1.specs.Histories.{Status, quiet, asked, acted, State, Event, begins, acts, ends}
-use Rattle.laws.specs.Types.{Answer, Replied, Refused, Reply, Moved, Loaded, Took, Lost, Released, Good, Gone, Task, Machine}
+use Rattle.laws.specs.Types.{Answer, Reply, Moved, Loaded, Took, Lost, Released, Good, Gone, Task, Machine}
 
 -- the value of cell x is that of the node it points at
 abbrev pub value_of_cell : Machine → ℕ → ℕ
@@ -73,8 +73,8 @@ ending Gone = gone ∷ []
 
 -- what an answer ends a call with: one result, or none
 abbrev pub finishes : Answer → List Result
-finishes (Replied r) = ending r
-finishes (Refused r) = []
+finishes (Ok r) = ending r
+finishes (Err r) = []
 
 abbrev pub each : {A B : Type 0} → (A → B) → List A → List B
 each f [] = []
@@ -98,8 +98,8 @@ events_by acting false p m m' e r = each (begins p) (beginning (kind_of e) e (ta
 
 -- a refused entry has none
 abbrev pub events_in : (ℕ → ℕ → Bool) → Answer → Machine → Machine → List ℕ → List Event
-events_in acting (Refused r) m m' e = []
-events_in acting (Replied r) m m' e = events_by acting (eqb (kind_of e) 0) (get_or e 2 0) m m' e r
+events_in acting (Err r) m m' e = []
+events_in acting (Ok r) m m' e = events_by acting (eqb (kind_of e) 0) (get_or e 2 0) m m' e r
 
 unfoldable pub events_of : Machine → List ℕ → List Event
 events_of m e = events_in acts_from (apply_of m e).answer m (apply_of m e).machine e

@@ -1,5 +1,5 @@
 -- The six numbers of a run, as sums over the entries that it tried; and the numbers of a chain of runs, added up.
-use Rattle.std.specs.Prelude.{ℕ, ◌+◌, ◌*◌, cond, not, List, [], ◌∷◌, ◌++◌, eqb, ltb, length}
+use Rattle.std.specs.Prelude.{ℕ, ◌+◌, ◌*◌, cond, not, List, [], ◌∷◌, ◌++◌, eqb, ltb, length, Ok, Err}
 use Rattle.tallies.specs.Tally.{bit}
 use Rattle.answers.specs.Numbers.{refusal_number}
 use Rattle.cells.specs.Machine.{in_range}
@@ -7,7 +7,7 @@ use Rattle.cells.specs.Apply.{apply_of}
 use Rattle.runs.specs.Counts.{accepted, anywhere, loads_at, steps_at, turned_at, swaps_at}
 use Rattle.entries.specs.Schedule.{entries_in, entries_of}
 use Rattle.runs.specs.Run.{ran_of}
-use Rattle.laws.specs.Types.{Answer, Replied, Refused, Machine, Report}
+use Rattle.laws.specs.Types.{Answer, Machine, Report}
 use Rattle.laws.specs.Schedules.{over, tried}
 
 -- entries accepted
@@ -16,8 +16,8 @@ accepted_at m e = bit (accepted (apply_of m e).answer)
 
 -- the number of a refusal, or 0
 abbrev pub refusal_in : Answer → ℕ
-refusal_in (Replied r) = 0
-refusal_in (Refused r) = refusal_number r
+refusal_in (Ok r) = 0
+refusal_in (Err r) = refusal_number r
 
 -- that of the last entry; n where there is none
 unfoldable pub last_refusal : ℕ → Machine → List (List ℕ) → ℕ

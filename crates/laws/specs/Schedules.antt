@@ -1,11 +1,11 @@
 -- Schedules of entries, each any bytes at all; what is counted over one; and the records that are reached.
-use Rattle.std.specs.Prelude.{ℕ, ◌+◌, ◌≡◌, cond, List, [], ◌∷◌, ◌++◌, get_or, take}
+use Rattle.std.specs.Prelude.{ℕ, ◌+◌, ◌≡◌, cond, List, [], ◌∷◌, ◌++◌, get_or, take, Ok}
 use Rattle.cells.specs.Apply.{apply_of}
 use Rattle.cells.specs.Setup.{setup_of}
 use Rattle.runs.specs.Counts.{accepted}
 use Rattle.entries.specs.Schedule.{entries_of}
 use Rattle.runs.specs.Run.{ran_of}
-use Rattle.laws.specs.Types.{Machine, Ready}
+use Rattle.laws.specs.Types.{Machine}
 
 -- the record after a schedule
 unfoldable pub applied : Machine → List (List ℕ) → Machine
@@ -32,7 +32,7 @@ entry m es b i = get_or (tried (applied m es) (entries_of b)) i []
 
 -- the records that come from an accepted setup by entries, accepted or refused, and by runs, in any mixture
 pub data Reached : Machine → Type 0 where
-  set_up : (s : List ℕ) (used : ℕ) → (setup_of s).answer ≡ Ready used → Reached (setup_of s).machine
+  set_up : (s : List ℕ) (used : ℕ) → (setup_of s).answer ≡ Ok used → Reached (setup_of s).machine
   entered : (m : Machine) (e : List ℕ) → Reached m → Reached (apply_of m e).machine
   ran : (m : Machine) (s : List ℕ) (room : ℕ) → Reached m → Reached (ran_of m s room).machine
 
@@ -40,6 +40,6 @@ pub data Reached : Machine → Type 0 where
 pub record Scheduled (m : Machine) : Type 0 where
   pub setup : List ℕ
   pub used : ℕ
-  pub ready : (setup_of setup).answer ≡ Ready used
+  pub ready : (setup_of setup).answer ≡ Ok used
   pub entries : List (List ℕ)
   pub reaches : applied (setup_of setup).machine entries ≡ m

@@ -9,23 +9,16 @@ pub use Rattle.answers.specs.declared.Reply.{Reply}
 pub use Rattle.answers.specs.declared.Reply.TheVariants.{Moved, Loaded, Took, Lost, Released, Good, Gone}
 pub use Rattle.answers.specs.declared.Refusal.{Refusal}
 pub use Rattle.answers.specs.declared.Refusal.TheVariants.{Sizes, NoTask, NoKind, NoCell, NotZero, NotNow, NoStep, WrongMark, TooShort, NoRoom, Damaged, TooLong, NotALine, TooLarge, OutputShort}
-pub use Rattle.answers.specs.declared.Answer.{Answer}
-pub use Rattle.answers.specs.declared.Answer.TheVariants.{Replied, Refused}
+pub use Rattle.answers.specs.Types.{Answer}
 pub use Rattle.steps.specs.declared.Seen.{Seen}
 pub use Rattle.steps.specs.declared.Write.{Write}
 pub use Rattle.steps.specs.declared.Write.TheVariants.{Nothing, Point, Count, Value}
-pub use Rattle.steps.specs.declared.Counted.{Counted}
-pub use Rattle.steps.specs.declared.Counted.TheVariants.{To, Broken}
 pub use Rattle.steps.specs.declared.Deed.{Deed}
-pub use Rattle.steps.specs.declared.Effect.{Effect}
-pub use Rattle.steps.specs.declared.Effect.TheVariants.{Does, Refuses}
+pub use Rattle.steps.specs.Types.{Effect}
 pub use Rattle.entries.specs.declared.Entry.{Entry}
-pub use Rattle.entries.specs.declared.EntryRead.{EntryRead}
-pub use Rattle.entries.specs.declared.EntryRead.TheVariants.{Whole, Refused as Unread}
 pub use Rattle.cells.specs.declared.Machine.{Machine}
 pub use Rattle.cells.specs.declared.Applied.{Applied}
 pub use Rattle.cells.specs.declared.Decision.{Decision}
-pub use Rattle.cells.specs.declared.SetupAnswer.TheVariants.{Ready, Refused as NotSetUp}
 pub use Rattle.cells.specs.declared.SetUp.{SetUp}
 pub use Rattle.runs.specs.declared.Report.{Report}
 pub use Rattle.runs.specs.declared.Ran.{Ran}

@@ -4,7 +4,7 @@ ghost use Rattle.tasks.specs.Records.{no_task};
 ghost use Rattle.tasks.specs.Calls.{begun_of};
 ghost use Rattle.tasks.specs.Holders.{holders_of};
 
-use tasks::{Call, HolderCount, NodeNo, Task};
+use tasks::{Call, NodeNo, Task};
 
 // One record of a row is lent to `begin` where it lies; its neighbours are not.
 pub(crate) fn start_at(ts: [Task; 4], i: usize, c: Call) -> [Task; 4]
@@ -17,7 +17,7 @@ pub(crate) fn start_at(ts: [Task; 4], i: usize, c: Call) -> [Task; 4]
 }
 
 // The first n records of a row are lent to `holders`. Seventeen is one more than a list may have.
-pub(crate) fn ask(ts: [Task; 17], n: usize, node: NodeNo) -> HolderCount
+pub(crate) fn ask(ts: [Task; 17], n: usize, node: NodeNo) -> Option<usize>
     requires { n ≤ 17 }
     ensures { result ≡ holders_of (take n ts) node }
 {

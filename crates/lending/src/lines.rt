@@ -1,6 +1,6 @@
 // A line of text: a label, a colon, numbers with single spaces.
 use std::io;
-use tasks::{HolderCount, Task};
+use tasks::Task;
 
 // A space, then a number.
 fn number(rt: &impl Print, n: u64) -> io::Result<()> {
@@ -31,7 +31,7 @@ pub(crate) fn row_record(rt: &impl Print, label: &str, i: u64, t: Task) -> io::R
     fields(rt, t)
 }
 
-fn numbers(rt: &impl Print, h: HolderCount) -> io::Result<()> {
+fn numbers(rt: &impl Print, h: Option<usize>) -> io::Result<()> {
     print!(rt; ":")?;
     number(rt, tasks::holders_number(h) as u64)?;
     number(rt, tasks::holders_value(h) as u64)?;
@@ -39,13 +39,13 @@ fn numbers(rt: &impl Print, h: HolderCount) -> io::Result<()> {
 }
 
 // The answer to a holders question: its number and its value.
-pub(crate) fn answer(rt: &impl Print, label: &str, h: HolderCount) -> io::Result<()> {
+pub(crate) fn answer(rt: &impl Print, label: &str, h: Option<usize>) -> io::Result<()> {
     print!(rt; "{label}")?;
     numbers(rt, h)
 }
 
 // The same, with the phase as the label.
-pub(crate) fn phase_answer(rt: &impl Print, phase: u8, h: HolderCount) -> io::Result<()> {
+pub(crate) fn phase_answer(rt: &impl Print, phase: u8, h: Option<usize>) -> io::Result<()> {
     print!(rt; "phase")?;
     number(rt, phase as u64)?;
     numbers(rt, h)

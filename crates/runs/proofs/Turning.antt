@@ -1,4 +1,5 @@
 -- One entry over lent tables is the same entry of the record that they come to: the run takes it, or stops there. Assumes nothing.
+use Rattle.std.specs.Prelude.{Ok, Err}
 use Prim.Native.Nat.{ℕ, ◌+◌, ◌-◌, ◌*◌, ◌≤◌, ◌<◌, min}
 use mathlib.Core.Path.{◌≡◌, refl, sym, ap, ◌∙◌, subst}
 use mathlib.Core.Bool.{true, false, false≢true}
@@ -8,7 +9,6 @@ use lib.ListN.{length, get_or, take, drop, set, length-take, length-drop}
 use lib.Seq.{get_or-set_same}
 use borrow.Author.Tests.{lt-ltb, le-ltb}
 use Rattle.answers.specs.declared.Refusal.TheVariants.{WrongMark, TooShort}
-use Rattle.answers.specs.declared.Answer.TheVariants.{Replied}
 use Rattle.answers.specs.Numbers.{refusal_number, number_of, value_of}
 use Rattle.wire.specs.Bytes.{entry_mark, marked, word_at, reply_of, overlaid}
 use Rattle.tasks.specs.Records.{no_task}
@@ -25,7 +25,7 @@ use Rattle.cells.proofs.Ranges.{keeps_ranges}
 use Rattle.cells.proofs.Untested.{unread_applied, order_applied, its_own}
 use Rattle.turns.specs.declared.Turned.{Turned}
 use Rattle.turns.specs.Turned.{Carries}
-use Rattle.runs.specs.Types.{Machine, Report, Applied, Task, Refusal, Effect, Does, Refuses}
+use Rattle.runs.specs.Types.{Machine, Report, Applied, Task, Refusal, Effect}
 use Rattle.runs.specs.Counts.{accepted, kind_of, task_of}
 use Rattle.runs.specs.Run.{counted, report_of, refused_at, ran_from, reply_bytes, replies_from, free_now, notes_from, noted_by}
 use Rattle.runs.specs.OneEntry.{counted_by}
@@ -100,11 +100,11 @@ module _ {s o₀ f₀ : List ℕ} {m₀ : Machine} {o f : List ℕ} {m : Machine
           stopped refuses r' hr f' hf = by due refl
             where
               by : (e : Effect) → due ≡ e → Over s o₀ f₀ m₀ o' f' (made_of m.n m.p m.k m.free cs vs ns m.tasks) r'
-              by (Refuses z) is =
-                  let w = refused (get_or x 2 0) z (applied ∙ ap (carried_of m (record { 0 = get_or x 2 0 })) is) o' (wrote_is (Refuses z) is) r' (hr ∙ ap (λ (k : ℕ). refused_at k r) (number_is (Refuses z) is)) f' hf in
+              by (Err z) is =
+                  let w = refused (get_or x 2 0) z (applied ∙ ap (carried_of m (record { 0 = get_or x 2 0 })) is) o' (wrote_is (Err z) is) r' (hr ∙ ap (λ (k : ℕ). refused_at k r) (number_is (Err z) is)) f' hf in
                   let same = rw is at turned in
                   (rw (same.1, same.2, same.3) w.0, w.1, w.2)
-              by (Does z) is = absurd (false≢true (sym refuses ∙ accepted_is (Does z) is))
+              by (Ok z) is = absurd (false≢true (sym refuses ∙ accepted_is (Ok z) is))
 
           pub went_on : accepted d.answer ≡ true → (j : ℕ) → j ≡ min (get_or x 2 0) 15 → (u : Task) → u ≡ d.task → (r' : Report) → r' ≡ counted_by r (get_or x 3 0) t.phase u.phase → (f' : List ℕ) → f' ≡ set f i (free_value (free_of m.n m.p m.k d.free))
               → Turning s o₀ f₀ m₀ o' f' (made_of m.n m.p m.k d.free cs vs ns (set m.tasks j u)) r' (i + 1)
@@ -112,10 +112,10 @@ module _ {s o₀ f₀ : List ℕ} {m₀ : Machine} {o f : List ℕ} {m : Machine
           went_on accepts j hj u hu r' hr f' hf = by due refl
             where
               by : (e : Effect) → due ≡ e → Turning s o₀ f₀ m₀ o' f' (made_of m.n m.p m.k d.free cs vs ns (set m.tasks j u)) r' (i + 1)
-              by (Refuses z) is = absurd (false≢true (sym (accepted_is (Refuses z) is) ∙ accepts))
-              by (Does z) is =
+              by (Err z) is = absurd (false≢true (sym (accepted_is (Err z) is) ∙ accepts))
+              by (Ok z) is =
                   let same = rw is at turned in
-                  let done : apply_of m x ≡ record { machine = written m (record { 0 = get_or x 2 0 }) z.task z.write; answer = Replied z.reply; task = get_or x 2 0 } = applied ∙ ap (carried_of m (record { 0 = get_or x 2 0 })) is in
+                  let done : apply_of m x ≡ record { machine = written m (record { 0 = get_or x 2 0 }) z.task z.write; answer = Ok z.reply; task = get_or x 2 0 } = applied ∙ ap (carried_of m (record { 0 = get_or x 2 0 })) is in
                   let own : min (get_or x 2 0) 15 ≡ get_or x 2 0 = its_own m g.sound x t here z (ap at (sym value) ∙ is) in
                   let new : u ≡ z.task = hu ∙ ap (λ (k : Turned). k.task) same.0 in
                   let after : made_of m.n m.p m.k d.free cs vs ns (set m.tasks j u) ≡ written m (record { 0 = get_or x 2 0 }) z.task z.write =
@@ -131,7 +131,7 @@ module _ {s o₀ f₀ : List ℕ} {m₀ : Machine} {o f : List ℕ} {m : Machine
                   hr ∙ ap (λ (k : Task). counted_by r (kind_of x) k.phase u.phase) was ∙ ap (λ (k : Task). counted_by r (kind_of x) (task_of m x).phase k.phase) left
                   ∙ sym (counted_by_lem m x r taken) ∙ ap (λ (k : List ℕ). counted m k r) q in
                   let bytes : o' ≡ overlaid o (8 * i) (reply_bytes (apply_of m (take 10 (drop (10 * i) s)))) =
-                  wrote_is (Does z) is ∙ ap (λ (k : Applied). overlaid o (8 * i) (reply_bytes k)) (sym done ∙ ap (apply_of m) q) in
+                  wrote_is (Ok z) is ∙ ap (λ (k : Applied). overlaid o (8 * i) (reply_bytes k)) (sym done ∙ ap (apply_of m) q) in
                   let noted : f' ≡ set f i (free_now (apply_of m (take 10 (drop (10 * i) s))).machine) = hf ∙ ap (λ (k : Machine). set f i (free_now k)) machine in
                   record {
                     going = rw (bytes, noted, machine, report) (goes_on s o₀ f₀ m₀ o f m r i g.going more room (ap (λ (k : List ℕ). accepted (apply_of m k).answer) (sym q) ∙ taken));

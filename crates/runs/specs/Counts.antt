@@ -1,14 +1,14 @@
 -- What an entry counts for, read off the entry and its task's record before and after. `on` says which cells are counted; a run counts all.
-use Rattle.std.specs.Prelude.{ℕ, Bool, true, false, ◌&&◌, List, eqb, get_or}
+use Rattle.std.specs.Prelude.{ℕ, Bool, true, false, ◌&&◌, List, eqb, get_or, Ok, Err}
 use Rattle.tallies.specs.Lists.{within}
 use Rattle.tallies.specs.Tally.{bit}
 use Rattle.tasks.specs.Records.{no_task}
 use Rattle.cells.specs.Apply.{apply_of}
-use Rattle.runs.specs.Types.{Task, Machine, Answer, Replied, Refused}
+use Rattle.runs.specs.Types.{Task, Machine, Answer}
 
 abbrev pub accepted : Answer → Bool
-accepted (Replied r) = true
-accepted (Refused r) = false
+accepted (Ok r) = true
+accepted (Err r) = false
 
 -- an entry's kind, and the record of its task in a machine
 abbrev pub kind_of : List ℕ → ℕ

@@ -12,8 +12,8 @@ ghost use Rattle.runs.specs.Lent.{made_of, left_with, left_ran};
 ghost use Rattle.runs.specs.Input.{outcome_of, replies_after, free_nodes_after};
 ghost use Rattle.runs.specs.OneEntry.{load_begun, load_step, went_of, counted_by, Few};
 
-use answers::{Answer, Refusal};
-use cells::{Machine, SetupAnswer};
+use answers::Refusal;
+use cells::Machine;
 use tasks::{CellNo, Task, TaskNo};
 
 // Entries accepted, the refusal or 0, loads begun, load steps, turned-back checks, swaps that took: all for one run.
@@ -206,11 +206,11 @@ fn run_tables(
         let number = answers::number(a);
         reply(out, i, number, q, answers::value(a));
         match a {
-            Answer::Refused(_) => {
+            Err(_) => {
                 note(free_nodes, i, n, p, k, left);
                 return stop(tasks, left, report, number);
             }
-            Answer::Replied(_) => {
+            Ok(_) => {
                 let next = d.task;
                 let u = next.copied();
                 tasks[j] = u;
@@ -320,15 +320,8 @@ pub fn run(m: Machine, s: &[u8], out: &mut [u8]) -> Ran
     run_free(m, s, out, &mut none)
 }
 
-// What comes of a setup and its schedule: the setup's refusal, or the run's report.
-#[derive(Clone, Copy)]
-pub enum Outcome {
-    Refused(Refusal),
-    Reported(Report),
-}
-
-// A setup and its schedule from bytes, as `Machine::setup` and `run_free` have it. There is no record: the tables lie here once, and are lent to the setup and then to the run.
-pub fn run_input(input: &[u8], out: &mut [u8], free_nodes: &mut [u8]) -> Outcome
+// A setup and its schedule from bytes: the setup's refusal, or the run's report, as `Machine::setup` and `run_free` have it. There is no record: the tables lie here once, and are lent to the setup and then to the run.
+pub fn run_input(input: &[u8], out: &mut [u8], free_nodes: &mut [u8]) -> Result<Report, Refusal>
     ensures { (result ≡ outcome_of input.now (length out.old)) × (out.new ≡ replies_after input.now out.old) × (free_nodes.new ≡ free_nodes_after input.now (length out.old) free_nodes.old) }
 {
     let mut cells: [u8; 64] = [0; 64];
@@ -337,8 +330,8 @@ pub fn run_input(input: &[u8], out: &mut [u8], free_nodes: &mut [u8]) -> Outcome
     let m = cells::start::fill(input, &mut cells, &mut values, &mut counts);
     let a = m.answer;
     match a {
-        SetupAnswer::Refused(r) => Outcome::Refused(r),
-        SetupAnswer::Ready(used) => {
+        Err(r) => Err(r),
+        Ok(used) => {
             let ts = m.tasks;
             let left = run_lent(
                 m.n,
@@ -354,7 +347,7 @@ pub fn run_input(input: &[u8], out: &mut [u8], free_nodes: &mut [u8]) -> Outcome
                 free_nodes,
             );
             let report = left.report;
-            Outcome::Reported(report)
+            Ok(report)
         }
     }
 }

@@ -4,9 +4,9 @@
 ghost use Rattle.std.specs.Prelude.{◌≤◌, length};
 ghost use Rattle.texts.specs.Made.{text_bytes};
 
+use answers::Refusal;
 use std::env::Env;
 use std::io;
-use texts::TextAnswer;
 
 fn same(a: &[u8], b: &[u8]) -> bool {
     let n = a.len();
@@ -43,7 +43,7 @@ fn tell(
     rt: &impl Print,
     err: &impl Print,
     direction: &str,
-    a: TextAnswer,
+    a: Result<usize, Refusal>,
     out: &[u8],
 ) -> io::Result<()>
     requires { text_bytes a ≤ length out.now }

@@ -3,7 +3,7 @@
 
 ghost use Rattle.std.specs.Prelude.{◌≤◌, length};
 
-use cells::{Machine, SetupAnswer};
+use cells::Machine;
 use runs::Report;
 use std::io;
 
@@ -146,8 +146,8 @@ fn answered(input: &[u8], text: &mut [u8]) -> usize
     let answer = s.answer;
     let machine = s.machine;
     match answer {
-        SetupAnswer::Refused(r) => refused(answers::refusal_number(r), text),
-        SetupAnswer::Ready(used) => bench(machine, &input[used..], text),
+        Err(r) => refused(answers::refusal_number(r), text),
+        Ok(used) => bench(machine, &input[used..], text),
     }
 }
 

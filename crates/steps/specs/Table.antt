@@ -1,9 +1,10 @@
 -- The step table of document 01 as document 02 changes it (validate; lowering tells what it left; free nodes are kept count of), row by row in
 -- their order. Each row gives, for a task's record and the numbers in its sight, a deed: the next record, the one place written, the reply.
-use Rattle.std.specs.Prelude.{ℕ, ◌+◌, ◌-◌, ◌%◌, cond, List, [], ◌∷◌, eqb, ltb, get_or}
+use Rattle.std.specs.Prelude.{ℕ, ◌+◌, ◌-◌, ◌%◌, cond, List, [], ◌∷◌, eqb, ltb, get_or, Result, Ok, Err}
 use Rattle.tallies.specs.Tally.{bit}
 use Rattle.tasks.specs.Records.{node_no, onward, holding, owning, probing}
-use Rattle.steps.specs.Types.{NodeNo, Task, Reply, Moved, Loaded, Took, Lost, Released, Good, Gone, NoStep, Damaged, Answer, Replied, Refused, Seen, Write, Nothing, Point, Count, Value, Counted, To, Broken, Effect, Does, Refuses}
+use Rattle.steps.specs.Types.{Counted, NodeNo, Task, Reply, Moved, Loaded, Took, Lost, Released, Good, Gone, NoStep, Damaged, Answer, Seen, Write, Nothing, Point, Count, Value, Effect}
+use Rattle.answers.specs.declared.Refusal.{Refusal}
 
 -- (v + 1) mod k. K is never 0 in a record that is in range; the definition gives 0 there.
 unfoldable pub after : ℕ → NodeNo → NodeNo
@@ -16,31 +17,31 @@ free_after free c d = free + bit (eqb d 0) - bit (eqb c 0)
 -- the count of node v goes from c to d, and the number of free nodes with it; the record is damaged where that would go below 0 or above K
 unfoldable pub recounted_of : Seen → NodeNo → ℕ → ℕ → Counted
 recounted_of s v c d =
-    cond (ltb (s.free + bit (eqb d 0)) (bit (eqb c 0))) Broken
-    (cond (ltb s.nodes (free_after s.free c d)) Broken
-    (To (Count v d (free_after s.free c d)) d))
+    cond (ltb (s.free + bit (eqb d 0)) (bit (eqb c 0))) (Err Damaged)
+    (cond (ltb s.nodes (free_after s.free c d)) (Err Damaged)
+    (Ok (Count v d (free_after s.free c d), d)))
 
 -- the count c of node v up by 1, and the number then there; a record of P tasks is damaged where it would go past P + 1 (or past a byte, where
 -- P is 255), and where `recounted_of` says so
 unfoldable pub raised_of : Seen → NodeNo → ℕ → Counted
-raised_of s v c = cond (ltb s.tasks c) Broken (cond (eqb c 255) Broken (recounted_of s v c (c + 1)))
+raised_of s v c = cond (ltb s.tasks c) (Err Damaged) (cond (eqb c 255) (Err Damaged) (recounted_of s v c (c + 1)))
 
 -- the count c of node v down by 1, and the number left behind; the record is damaged where c is 0, and where `recounted_of` says so
 unfoldable pub lowered_of : Seen → NodeNo → ℕ → Counted
-lowered_of s v c = cond (eqb c 0) Broken (recounted_of s v c (c - 1))
+lowered_of s v c = cond (eqb c 0) (Err Damaged) (recounted_of s v c (c - 1))
 
 abbrev pub does : Task → Write → Reply → Effect
-does t w r = Does (record { task = t; write = w; reply = r })
+does t w r = Ok (record { task = t; write = w; reply = r })
 
 -- a step that counts: its deed, or refusal 22
 abbrev pub counting : Counted → Task → Reply → Effect
-counting (To w n) t r = does t w r
-counting Broken t r = Refuses Damaged
+counting (Ok (w, n)) t r = does t w r
+counting (Err x) t r = Err x
 
 -- the step that goes by the number left: at 1 the task takes m as its own node and its store has ended, else it goes on to S5
 abbrev pub leaving : Counted → Task → Effect
-leaving (To w left) t = cond (eqb left 1) (does (onward (owning t t.held) 0) w Took) (does (onward t 11) w Moved)
-leaving Broken t = Refuses Damaged
+leaving (Ok (w, left)) t = cond (eqb left 1) (does (onward (owning t t.held) 0) w Took) (does (onward t 11) w Moved)
+leaving (Err x) t = Err x
 
 -- the count of m
 abbrev pub raising : Task → Seen → Counted
@@ -54,7 +55,7 @@ Row = Task → Seen → Effect
 
 -- 0 idle, 6 linked: no step
 abbrev pub none : Row
-none t s = Refuses NoStep
+none t s = Err NoStep
 
 -- 1 L1: m becomes the node of x; 2
 abbrev pub l1 : Row
@@ -112,7 +113,7 @@ v1 t s = cond (eqb t.held.0 s.here.0) (does (onward t 6) Nothing Good) (does (on
 
 -- 10, and above 15: there is no such phase
 abbrev pub no_phase : Row
-no_phase t s = Refuses Damaged
+no_phase t s = Err Damaged
 
 unfoldable pub rows : List Row
 rows = none ∷ l1 ∷ l2 ∷ l3 ∷ l4 ∷ l5 ∷ none ∷ s1 ∷ s2 ∷ s3 ∷ no_phase ∷ s5 ∷ s6 ∷ s7 ∷ r1 ∷ v1 ∷ []
@@ -123,5 +124,5 @@ effect_of t s = get_or rows t.phase no_phase t s
 
 -- what an effect is answered with, and so its number and value
 abbrev pub answer_of : Effect → Answer
-answer_of (Refuses r) = Refused r
-answer_of (Does d) = Replied d.reply
+answer_of (Err r) = Err r
+answer_of (Ok d) = Ok d.reply

@@ -31,13 +31,6 @@ pub enum Write {
     Value(NodeNo, u32),
 }
 
-// A count that a step changes: the write that does it and the count then, or a damaged record.
-#[derive(Clone, Copy)]
-pub enum Counted {
-    To(Write, u8),
-    Broken,
-}
-
 #[derive(Clone, Copy)]
 pub struct Deed {
     pub task: Task,
@@ -45,11 +38,11 @@ pub struct Deed {
     pub reply: Reply,
 }
 
-#[derive(Clone, Copy)]
-pub enum Effect {
-    Does(Deed),
-    Refuses(Refusal),
-}
+// A deed, or why nothing is done.
+pub type Effect = Result<Deed, Refusal>;
+
+// A count that a step changes: the write that does it, and the count then.
+pub type Counted = Result<(Write, u8), Refusal>;
 
 // The node after v, in a pool of k.
 #[tactic(auto, unfolding(crate::specs::Table::after))]
@@ -79,13 +72,13 @@ fn recounted(s: Seen, v: NodeNo, from: u8, to: u8) -> Counted
     let more = s.free as u16 + free_one(to);
     let less = free_one(from);
     if more < less {
-        return Counted::Broken;
+        return Err(Refusal::Damaged);
     }
     let free = more - less;
     if (s.nodes as u16) < free {
-        return Counted::Broken;
+        return Err(Refusal::Damaged);
     }
-    Counted::To(Write::Count(v, to, free as u8), to)
+    Ok((Write::Count(v, to, free as u8), to))
 }
 
 // The one place where a count goes up: node v's, which is now `count`.
@@ -94,10 +87,10 @@ pub fn raised(s: Seen, v: NodeNo, count: u8) -> Counted
     ensures { result ≡ raised_of s v count }
 {
     if s.tasks < count {
-        return Counted::Broken;
+        return Err(Refusal::Damaged);
     }
     if count == 255 {
-        return Counted::Broken;
+        return Err(Refusal::Damaged);
     }
     let up = count + 1;
     recounted(s, v, count, up)
@@ -109,7 +102,7 @@ pub fn lowered(s: Seen, v: NodeNo, count: u8) -> Counted
     ensures { result ≡ lowered_of s v count }
 {
     if count == 0 {
-        return Counted::Broken;
+        return Err(Refusal::Damaged);
     }
     let left = count - 1;
     recounted(s, v, count, left)
@@ -118,7 +111,7 @@ pub fn lowered(s: Seen, v: NodeNo, count: u8) -> Counted
 fn done(t: Task, w: Write, r: Reply) -> Effect
     ensures { result ≡ does t w r }
 {
-    Effect::Does(Deed {
+    Ok(Deed {
         task: t,
         write: w,
         reply: r,
@@ -128,10 +121,8 @@ fn done(t: Task, w: Write, r: Reply) -> Effect
 fn settled(c: Counted, t: Task, r: Reply) -> Effect
     ensures { result ≡ counting c t r }
 {
-    match c {
-        Counted::To(w, _) => done(t, w, r),
-        Counted::Broken => Effect::Refuses(Refusal::Damaged),
-    }
+    let (write, _) = c?;
+    done(t, write, r)
 }
 
 // L1: m becomes the node of x.
@@ -152,8 +143,7 @@ pub fn l2_step(t: Task, s: Seen) -> Effect
 pub fn l3_step(t: Task, s: Seen) -> Effect
     ensures { result ≡ l3 t s }
 {
-    let same = t.held.0 == s.here.0;
-    if same {
+    if t.held == s.here {
         done(t.onward(4), Write::Nothing, Reply::Moved)
     } else {
         done(t.onward(5), Write::Nothing, Reply::Moved)
@@ -186,7 +176,7 @@ pub fn s1_step(t: Task, s: Seen) -> Effect
 pub fn s2_step(t: Task, s: Seen) -> Effect
     ensures { result ≡ s2 t s }
 {
-    if t.held.0 == s.here.0 {
+    if t.held == s.here {
         let x = t.cell;
         let o = t.own;
         done(t.onward(9), Write::Point(x, o), Reply::Moved)
@@ -199,15 +189,11 @@ pub fn s2_step(t: Task, s: Seen) -> Effect
 pub fn s3_step(t: Task, s: Seen) -> Effect
     ensures { result ≡ s3 t s }
 {
-    match lowered(s, t.held, s.held_count) {
-        Counted::To(w, left) => {
-            if left == 1 {
-                done(t.owning(t.held).onward(0), w, Reply::Took)
-            } else {
-                done(t.onward(11), w, Reply::Moved)
-            }
-        }
-        Counted::Broken => Effect::Refuses(Refusal::Damaged),
+    let (w, left) = lowered(s, t.held, s.held_count)?;
+    if left == 1 {
+        done(t.owning(t.held).onward(0), w, Reply::Took)
+    } else {
+        done(t.onward(11), w, Reply::Moved)
     }
 }
 
@@ -260,7 +246,7 @@ pub fn r1_step(t: Task, s: Seen) -> Effect
 pub fn v1_step(t: Task, s: Seen) -> Effect
     ensures { result ≡ v1 t s }
 {
-    let good = t.held.0 == s.here.0;
+    let good = t.held == s.here;
     if good {
         done(t.onward(6), Write::Nothing, Reply::Good)
     } else {
@@ -308,12 +294,12 @@ pub fn step(t: Task, s: Seen) -> Effect
 {
     let f = t.phase;
     match f {
-        0 => Effect::Refuses(Refusal::NoStep),
+        0 => Err(Refusal::NoStep),
         1..=5 => load_step(t, s),
-        6 => Effect::Refuses(Refusal::NoStep),
+        6 => Err(Refusal::NoStep),
         7..=9 | 11..=13 => store_step(t, s),
         14 => r1_step(t, s),
         15 => v1_step(t, s),
-        _ => Effect::Refuses(Refusal::Damaged),
+        _ => Err(Refusal::Damaged),
     }
 }

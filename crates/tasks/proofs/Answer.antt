@@ -1,4 +1,5 @@
 -- The answer to the holders question, by how the test of refusal 24 came out; and a task counts at most once. Assumes nothing.
+use Rattle.std.specs.Prelude.{Some, None}
 use Prim.Native.Nat.{ℕ, ◌≤◌}
 use mathlib.Core.Path.{◌≡◌, refl, sym}
 use mathlib.Core.Bool.{Bool, true, false, not, cond, ◌&&◌}
@@ -7,7 +8,7 @@ use lib.Dec.{T, eqb}
 use lib.ListN.{length}
 use Rattle.tallies.specs.Tally.{tally}
 use Rattle.tallies.proofs.Tally.{bit_le}
-use Rattle.tasks.specs.Types.{NodeNo, Task, Count, Refused}
+use Rattle.tasks.specs.Types.{NodeNo, Task}
 use Rattle.tasks.specs.Phases.{holds}
 use Rattle.tasks.specs.Holders.{keeps, beyond_of, holders_of}
 
@@ -23,10 +24,10 @@ left true a b h = absurd h
 left false a b h = refl
 
 module _ (ts : List Task) (v : NodeNo) where
-  pub refused : T (beyond_of (length ts) v) → Refused ≡ holders_of ts v
+  pub refused : T (beyond_of (length ts) v) → None ≡ holders_of ts v
   unfolding holders_of
-  refused h = sym (taken (beyond_of (length ts) v) Refused (Count (tally (keeps v.0) (length ts) ts)) h)
+  refused h = sym (taken (beyond_of (length ts) v) None (Some (tally (keeps v.0) (length ts) ts)) h)
 
-  pub counted : T (not (beyond_of (length ts) v)) → Count (tally (keeps v.0) (length ts) ts) ≡ holders_of ts v
+  pub counted : T (not (beyond_of (length ts) v)) → Some (tally (keeps v.0) (length ts) ts) ≡ holders_of ts v
   unfolding holders_of
-  counted h = sym (left (beyond_of (length ts) v) Refused (Count (tally (keeps v.0) (length ts) ts)) h)
+  counted h = sym (left (beyond_of (length ts) v) None (Some (tally (keeps v.0) (length ts) ts)) h)

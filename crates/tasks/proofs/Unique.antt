@@ -1,4 +1,5 @@
 -- Any two results that a public function's contract allows are equal, and so is what a lent place holds when the function returns. Assumes nothing.
+use Rattle.std.specs.Prelude.{Option}
 use mathlib.Core.Path.{◌≡◌, refl, sym, ◌∙◌}
 use mathlib.Core.List.{List}
 use seplogic.Ra.Ura.{Ura}
@@ -12,7 +13,7 @@ use contract.Notation.{connectives}
 use denote.Triple.Entry.{Args, Res}
 use denote.Triple.Clauses.{Lasts, at_exit}
 use Rattle.contracts.specs.One.{One}
-use Rattle.tasks.specs.Types.{NodeNo, Task, Call, HolderCount}
+use Rattle.tasks.specs.Types.{NodeNo, Task, Call}
 use Rattle.tasks.specs.Calls.{begun_of}
 use Rattle.tasks.specs.Holders.{holders_of}
 use Rattle.tasks.specs.contracts.begin as begin
@@ -45,6 +46,7 @@ use Rattle.tasks.proofs.holders_number.Kinds as holders-number·k
 use Rattle.tasks.proofs.holders_number.Reads as holders-number
 use Rattle.tasks.proofs.holders_value.Kinds as holders-value·k
 use Rattle.tasks.proofs.holders_value.Reads as holders-value
+use Rattle.std.specs.Prelude.{ℕ}
 
 pub idle_owning_one : One idle-owning·k.ps idle-owning·k.r idle-owning.Pre idle-owning.Post
 idle_owning_one κs a z z' ws ws' p q q' = (q ∙ sym q', refl)
@@ -94,7 +96,7 @@ abbrev pub Began : Task → Call → Task → Type 0
 Began t c u = u ≡ begun_of t c
 
 -- what `holders` answers
-abbrev pub Answered : List Task → NodeNo → HolderCount → Type 0
+abbrev pub Answered : List Task → NodeNo → Option ℕ → Type 0
 Answered ts v r = r ≡ holders_of ts v
 
 module _ {M : Type 1} {𝓤 : Ura M} (𝓛 : Logic 𝓤) (mem : Memory → SProp 𝓤) (run : Routine → Fun 𝓤) (κs : Lfts 1) where

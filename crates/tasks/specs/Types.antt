@@ -4,5 +4,3 @@ pub use Rattle.tasks.specs.declared.NodeNo.{NodeNo}
 pub use Rattle.tasks.specs.declared.Task.{Task}
 pub use Rattle.tasks.specs.declared.Call.{Call}
 pub use Rattle.tasks.specs.declared.Call.TheVariants.{Load, Store, Release, Validate}
-pub use Rattle.tasks.specs.declared.HolderCount.{HolderCount}
-pub use Rattle.tasks.specs.declared.HolderCount.TheVariants.{Count, Refused}

@@ -7,17 +7,17 @@ ghost use Rattle.tasks.specs.Calls.{begun_of};
 ghost use Rattle.tasks.specs.Holders.{keeps, beyond_of, holders_of, held_among, holders_number, holders_value};
 
 // A cell number, a node number and a task number are different types: one can't be handed over where another is due.
-#[derive(Clone, Copy)]
+#[derive(Clone, Copy, PartialEq, Eq)]
 pub struct CellNo(pub u8);
 
-#[derive(Clone, Copy)]
+#[derive(Clone, Copy, PartialEq, Eq)]
 pub struct NodeNo(pub u8);
 
-#[derive(Clone, Copy)]
+#[derive(Clone, Copy, PartialEq, Eq)]
 pub struct TaskNo(pub u8);
 
 // Document 01's fields: x is `cell`, Y is `value`, m is `held`.
-#[derive(Clone, Copy)]
+#[derive(Clone, Copy, PartialEq, Eq)]
 pub struct Task {
     pub phase: u8,
     pub cell: CellNo,
@@ -36,13 +36,6 @@ pub enum Call {
     Validate,
 }
 
-// The answer to the holders question; the refusal is number 24.
-#[derive(Clone, Copy)]
-pub enum HolderCount {
-    Count(usize),
-    Refused,
-}
-
 // A record of these fields. The functions below make theirs here: a copy that is changed in one field would be made byte by byte, which takes longer.
 fn with_fields(
     phase: u8,
@@ -55,12 +48,12 @@ fn with_fields(
     ensures { result ≡ with_fields phase cell value held own cursor }
 {
     Task {
-        phase: phase,
-        cell: cell,
-        value: value,
-        held: held,
-        own: own,
-        cursor: cursor,
+        phase,
+        cell,
+        value,
+        held,
+        own,
+        cursor,
     }
 }
 
@@ -208,12 +201,12 @@ pub fn beyond(n: usize, node: NodeNo) -> bool
     16 < n || 127 < node.0
 }
 
-// The holders question: how many of the lent task records hold the node.
-pub fn holders(ts: &[Task], node: NodeNo) -> HolderCount
+// The holders question: how many of the lent task records hold the node; none if it is refused, which is number 24.
+pub fn holders(ts: &[Task], node: NodeNo) -> Option<usize>
     ensures { result ≡ holders_of ts.now node }
 {
     if beyond(ts.len(), node) {
-        return HolderCount::Refused;
+        return None;
     }
     let mut n = 0;
     let mut i = 0;
@@ -221,11 +214,11 @@ pub fn holders(ts: &[Task], node: NodeNo) -> HolderCount
         n = n + holds_one(ts[i], node);
         i = i + 1;
     }
-    HolderCount::Count(n)
+    Some(n)
 }
 
 // The bridge to `holders`: the first p records of a copy are lent.
-fn lent_holders(ts: [Task; 16], p: usize, node: NodeNo) -> HolderCount
+fn lent_holders(ts: [Task; 16], p: usize, node: NodeNo) -> Option<usize>
     requires { p ≤ 16 }
     ensures { result ≡ holders_of (take p ts) node }
 {
@@ -234,29 +227,26 @@ fn lent_holders(ts: [Task; 16], p: usize, node: NodeNo) -> HolderCount
 
 // The holders question of the first p records of a table; a table of more than 16 is refused as such a list is.
 #[tactic(auto, unfolding(crate::specs::Holders::held_among))]
-pub fn held_among(ts: [Task; 16], p: u8, node: NodeNo) -> HolderCount
+pub fn held_among(ts: [Task; 16], p: u8, node: NodeNo) -> Option<usize>
     ensures { result ≡ held_among ts p node }
 {
     if 16 < p {
-        return HolderCount::Refused;
+        return None;
     }
     lent_holders(ts, p as usize, node)
 }
 
-pub fn holders_number(h: HolderCount) -> u8
+pub fn holders_number(h: Option<usize>) -> u8
     ensures { result ≡ holders_number h }
 {
     match h {
-        HolderCount::Count(_) => 0,
-        HolderCount::Refused => 24,
+        Some(_) => 0,
+        None => 24,
     }
 }
 
-pub fn holders_value(h: HolderCount) -> usize
+pub fn holders_value(h: Option<usize>) -> usize
     ensures { result ≡ holders_value h }
 {
-    match h {
-        HolderCount::Count(n) => n,
-        HolderCount::Refused => 0,
-    }
+    h.unwrap_or(0)
 }

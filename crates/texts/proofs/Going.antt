@@ -1,4 +1,5 @@
 -- Piece by piece through an input, in either direction: what is left of it gives the whole. `make` is what a direction makes of an input. Assumes nothing.
+use Rattle.std.specs.Prelude.{Result, Ok, Err}
 use Prim.Native.Nat.{ℕ, ◌+◌, ◌≤◌, ◌<◌}
 use native.Mathlib.Nat.{zero-add}
 use native.Mathlib.Omega.{arith}
@@ -11,22 +12,22 @@ use lib.ListN.{length, take, drop, length-append, drop_of_length-le}
 use borrow.Author.Tests.{lt-ltb, le-ltb}
 use Rattle.wire.specs.Bytes.{overlaid}
 use Rattle.wire.proofs.Laws.{over_none, over-more, over-length}
-use Rattle.texts.specs.Types.{Refusal, TooLong, OutputShort, TextAnswer, Written, NotWritten}
+use Rattle.texts.specs.Types.{Refusal, TooLong, OutputShort}
 use Rattle.texts.specs.Made.{Made, good, bad, behind, bytes_of, answered, laid, text_bytes}
 use Rattle.texts.specs.Steps.{length_of, is_good}
 
 -- k bytes more
-abbrev pub plus : ℕ → TextAnswer → TextAnswer
-plus k (Written n) = Written (k + n)
-plus k (NotWritten r) = NotWritten r
+abbrev pub plus : ℕ → Result ℕ Refusal → Result ℕ Refusal
+plus k (Ok n) = Ok (k + n)
+plus k (Err r) = Err r
 
 plus_behind : (k : ℕ) (b : List ℕ) (m : Made) → plus k (length_of (behind b m)) ≡ plus (k + length b) (length_of m)
 plus_behind k b (good c) = let e : k + (length b + length c) ≡ k + length b + length c = omega arith in rw (length-append b c, e)
 plus_behind k b (bad r) = refl
 
-plus_none : (a : TextAnswer) → plus 0 a ≡ a
-plus_none (Written n) = rw (zero-add n)
-plus_none (NotWritten r) = refl
+plus_none : (a : Result ℕ Refusal) → plus 0 a ≡ a
+plus_none (Ok n) = rw (zero-add n)
+plus_none (Err r) = refl
 
 good-behind : (b : List ℕ) (m : Made) → is_good (behind b m) ≡ true → (is_good m ≡ true) × (bytes_of (behind b m) ≡ b ++ bytes_of m)
 good-behind b (good c) h = (refl, refl)
@@ -44,14 +45,14 @@ module _ (make : List ℕ → Made) (s : List ℕ) where
   pub check_on : (at made next : ℕ) (b : List ℕ) → Checking at made → next ≤ length s → make (drop at s) ≡ behind b (make (drop next s)) → Checking next (made + length b)
   check_on at made next b c h e = record { within = h; whole = sym (plus_behind made b (make (drop next s))) ∙ (rw e at c.whole) }
 
-  pub check_stops : (at made : ℕ) (r : Refusal) → Checking at made → make (drop at s) ≡ bad r → NotWritten r ≡ length_of (make s)
+  pub check_stops : (at made : ℕ) (r : Refusal) → Checking at made → make (drop at s) ≡ bad r → Err r ≡ length_of (make s)
   check_stops at made r c e = rw e at c.whole
 
-  pub check_ends : (at made : ℕ) → Checking at made → length s ≤ at → make [] ≡ good [] → Written made ≡ length_of (make s)
+  pub check_ends : (at made : ℕ) → Checking at made → length s ≤ at → make [] ≡ good [] → Ok made ≡ length_of (make s)
   check_ends at made c h e =
       let all : drop at s ≡ [] = drop_of_length-le s h in
       let sum : made ≡ made + 0 = omega arith in
-      ap Written sum ∙ (rw (all, e) at c.whole)
+      ap Ok sum ∙ (rw (all, e) at c.whole)
 
   -- all is good, and what comes of the input up to `at` is written, in the first `to` bytes of the buffer
   pub record Writing (o₀ : List ℕ) (at to : ℕ) (o : List ℕ) : Type 0 where
@@ -91,28 +92,28 @@ module _ (make : List ℕ → Made) (s : List ℕ) where
         sym (over_none o to) ∙ (rw (all, e) at w.whole)
 
 -- what is made, by its length: refused, or too long for the buffer, or laid into it
-pub made_bad : (m : Made) (r : Refusal) (o : List ℕ) → length_of m ≡ NotWritten r → (NotWritten r ≡ answered m (length o)) × (o ≡ laid m o)
+pub made_bad : (m : Made) (r : Refusal) (o : List ℕ) → length_of m ≡ Err r → (Err r ≡ answered m (length o)) × (o ≡ laid m o)
 unfolding answered laid
 made_bad (good b) r o h = absurd (written_none (length b) r h)
   where
-    written_none : (n : ℕ) (r : Refusal) → Written n ≡ NotWritten r → ⊥
+    written_none : (n : ℕ) (r : Refusal) → Ok n ≡ Err r → ⊥
     written_none n r h = let z : ◌≡◌ {A = ℕ} 0 1 = cc in omega arith
 made_bad (bad q) r o h = (sym h, refl)
 
-pub made_short : (m : Made) (n : ℕ) (o : List ℕ) → length_of m ≡ Written n → length o < n → (NotWritten OutputShort ≡ answered m (length o)) × (o ≡ laid m o)
+pub made_short : (m : Made) (n : ℕ) (o : List ℕ) → length_of m ≡ Ok n → length o < n → (Err OutputShort ≡ answered m (length o)) × (o ≡ laid m o)
 unfolding answered laid
 made_short (good b) n o h l = let e : length b ≡ n = cc in rw (lt-ltb (length o) (length b) (omega arith)) (refl, refl)
 made_short (bad r) n o h l = let z : ◌≡◌ {A = ℕ} 0 1 = cc in absurd (omega arith)
 
-pub made_fits : (m : Made) (n : ℕ) (o : List ℕ) → length_of m ≡ Written n → n ≤ length o
-    → (is_good m ≡ true) × (length (bytes_of m) ≤ length o) × (Written n ≡ answered m (length o)) × (overlaid o 0 (bytes_of m) ≡ laid m o)
+pub made_fits : (m : Made) (n : ℕ) (o : List ℕ) → length_of m ≡ Ok n → n ≤ length o
+    → (is_good m ≡ true) × (length (bytes_of m) ≤ length o) × (Ok n ≡ answered m (length o)) × (overlaid o 0 (bytes_of m) ≡ laid m o)
 unfolding answered laid
 made_fits (good b) n o h l =
     let e : length b ≡ n = cc in
-    (refl, omega arith, rw (le-ltb (length o) (length b) (omega arith)) (ap Written (sym e)), rw (le-ltb (length o) (length b) (omega arith)))
+    (refl, omega arith, rw (le-ltb (length o) (length b) (omega arith)) (ap Ok (sym e)), rw (le-ltb (length o) (length b) (omega arith)))
 made_fits (bad r) n o h l = let z : ◌≡◌ {A = ℕ} 0 1 = cc in absurd (omega arith)
 
-pub made_long : (o : List ℕ) → (NotWritten TooLong ≡ answered (bad TooLong) (length o)) × (o ≡ laid (bad TooLong) o)
+pub made_long : (o : List ℕ) → (Err TooLong ≡ answered (bad TooLong) (length o)) × (o ≡ laid (bad TooLong) o)
 unfolding answered laid
 made_long o = (refl, refl)
 
@@ -136,7 +137,7 @@ laid-length (good b) o =
     ]
 
 -- what is written stands at the front of the buffer
-pub written-laid : (m : Made) (o : List ℕ) (n : ℕ) → answered m (length o) ≡ Written n → (b : List ℕ) × (m ≡ good b) × (take n (laid m o) ≡ b)
+pub written-laid : (m : Made) (o : List ℕ) (n : ℕ) → answered m (length o) ≡ Ok n → (b : List ℕ) × (m ≡ good b) × (take n (laid m o) ≡ b)
 unfolding answered laid
 written-laid (bad r) o n h = let z : ◌≡◌ {A = ℕ} 0 1 = cc in absurd (omega arith)
 written-laid (good b) o n h =
@@ -145,8 +146,8 @@ written-laid (good b) o n h =
       | no l ↦ absurd (short (rw (lt-ltb (length o) (length b) (omega arith)) at h))
     ]
   where
-    front : Written (length b) ≡ Written n → take n (overlaid o 0 b) ≡ b
+    front : Ok (length b) ≡ Ok n → take n (overlaid o 0 b) ≡ b
     front h = let e : length b ≡ n = cc in take_at b (drop (0 + length b) o) n e
 
-    short : NotWritten OutputShort ≡ Written n → ⊥
+    short : Err OutputShort ≡ Ok n → ⊥
     short h = let z : ◌≡◌ {A = ℕ} 0 1 = cc in omega arith

@@ -1,4 +1,5 @@
 -- One piece at a place of the input: a line, or an entry, is bad and decides, or gives its bytes in front of what the rest gives. Assumes nothing.
+use Rattle.std.specs.Prelude.{Result, Ok, Err}
 use Prim.Native.Nat.{ℕ, suc, ◌+◌, ◌-◌, ◌≤◌, ◌<◌}
 use native.Mathlib.Omega.{arith}
 use native.Mathlib.Decide.{dec_lt}
@@ -16,7 +17,7 @@ use Rattle.wire.proofs.Laws.{over-length, over_four}
 use Rattle.digits.specs.Decimal.{decimal}
 use Rattle.entries.specs.Entry.{entry_of, entry_bytes}
 use Rattle.entries.proofs.Laws.{entry_front}
-use Rattle.texts.specs.Types.{NotALine, TooLarge, NotZero, TooShort, Entry, EntryRead, Whole, Refused, LineRead, ALine, BadLine}
+use Rattle.texts.specs.Types.{NotALine, TooLarge, NotZero, TooShort, Entry}
 use Rattle.texts.specs.Line.{comma, newline, up_to, past, is_line, fits, entry_in, line_of}
 use Rattle.texts.specs.Made.{bad, behind, then}
 use Rattle.texts.specs.Text.{newlines, line_made, bytes_made, plain_of, plain_made, text_made}
@@ -25,11 +26,12 @@ use Rattle.texts.proofs.Parts.{up_to-free, parted}
 use Rattle.texts.proofs.Importing.{open_bad, made_more, made_last, newlines-more}
 use Rattle.texts.proofs.Exporting.{from_more, from_short}
 use Rattle.texts.proofs.Scan.{is_closed_lem, not_closed}
+use Rattle.answers.specs.declared.Refusal.{Refusal}
 
 -- what an answer about a line at `at` says of the text from there on
-abbrev pub Says : List ℕ → ℕ → LineRead → Type 0
-Says s at (BadLine r) = bytes_made (drop at s) ≡ bad r
-Says s at (ALine e next) =
+abbrev pub Says : List ℕ → ℕ → Result (Entry × ℕ) Refusal → Type 0
+Says s at (Err r) = bytes_made (drop at s) ≡ bad r
+Says s at (Ok (e, next)) =
     (bytes_made (drop at s) ≡ behind (entry_bytes e) (bytes_made (drop next s))) × (at < next) × (next ≤ length s) × (newlines (drop at s) ≡ suc (newlines (drop next s)))
 
 pub line_says : (s : List ℕ) (at : ℕ) → at < length s → Says s at (line_at s at)
@@ -53,7 +55,7 @@ line_says s at h = closing (is_closed t) refl
     made : t ≡ w ++ newline ∷ past newline t → bytes_made t ≡ then (line_made w) (bytes_made (drop next s))
     made e = ap bytes_made e ∙ made_more w (past newline t) (up_to-free newline t) ∙ ap (λ (u : List ℕ). then (line_made w) (bytes_made u)) (rest e)
 
-    sizes : t ≡ w ++ newline ∷ past newline t → is_line w ≡ true → (b : Bool) → fits w ≡ b → Says s at (cond b (ALine (entry_in w) next) (BadLine TooLarge))
+    sizes : t ≡ w ++ newline ∷ past newline t → is_line w ≡ true → (b : Bool) → fits w ≡ b → Says s at (cond b (Ok (entry_in w, next)) (Err TooLarge))
     sizes e q true p = (
       made e ∙ rw (q, p),
       omega arith,
@@ -62,11 +64,11 @@ line_says s at h = closing (is_closed t) refl
     )
     sizes e q false p = made e ∙ rw (q, p)
 
-    form : t ≡ w ++ newline ∷ past newline t → (b : Bool) → is_line w ≡ b → Says s at (cond b (line_in w next) (BadLine NotALine))
+    form : t ≡ w ++ newline ∷ past newline t → (b : Bool) → is_line w ≡ b → Says s at (cond b (line_in w next) (Err NotALine))
     form e true q = sizes e q (fits w) refl
     form e false q = made e ∙ rw q
 
-    closing : (b : Bool) → is_closed t ≡ b → Says s at (cond (b && is_line w) (line_in w next) (BadLine NotALine))
+    closing : (b : Bool) → is_closed t ≡ b → Says s at (cond (b && is_line w) (line_in w next) (Err NotALine))
     closing true q = form (is_closed_lem t q) (is_line w) refl
     closing false q =
         elim (parted newline t) [
@@ -75,15 +77,15 @@ line_says s at h = closing (is_closed t) refl
         ]
 
 -- the same of an answer that is known
-pub line_tells : (s : List ℕ) (at : ℕ) (r : LineRead) → at < length s → line_at s at ≡ r → Says s at r
+pub line_tells : (s : List ℕ) (at : ℕ) (r : Result (Entry × ℕ) Refusal) → at < length s → line_at s at ≡ r → Says s at r
 line_tells s at r h e = subst (Says s at) e (line_says s at h)
 
 -- what an answer about an entry at `at` says of the bytes from there on
-abbrev pub Tells : List ℕ → ℕ → EntryRead → Type 0
-Tells s at (Refused r) = text_made (drop at s) ≡ bad r
-Tells s at (Whole e) = (text_made (drop at s) ≡ behind (line_of e) (text_made (drop (at + 10) s))) × (at + 10 ≤ length s)
+abbrev pub Tells : List ℕ → ℕ → Result Entry Refusal → Type 0
+Tells s at (Err r) = text_made (drop at s) ≡ bad r
+Tells s at (Ok e) = (text_made (drop at s) ≡ behind (line_of e) (text_made (drop (at + 10) s))) × (at + 10 ≤ length s)
 
-short : (t : List ℕ) → length t < 10 → entry_of t ≡ Refused TooShort
+short : (t : List ℕ) → length t < 10 → entry_of t ≡ Err TooShort
 unfolding entry_of
 short t l = rw (lt-ltb (length t) 10 l)
 
@@ -100,18 +102,18 @@ entry_tells s at h =
     made : 10 ≤ length t → text_made t ≡ then (plain_made (plain_of (entry_of t))) (text_made (drop (at + 10) s))
     made l =
         ap text_made (sym (take-append-drop 10 t)) ∙ from_more (take 10 t) (drop 10 t) (length-take-le 10 t l)
-        ∙ ap (λ (r : EntryRead). then (plain_made (plain_of r)) (text_made (drop 10 t))) (entry_front t) ∙ ap (λ (u : List ℕ). then (plain_made (plain_of (entry_of t))) (text_made u)) (drop-drop 10 at s)
+        ∙ ap (λ (r : Result Entry Refusal). then (plain_made (plain_of r)) (text_made (drop 10 t))) (entry_front t) ∙ ap (λ (u : List ℕ). then (plain_made (plain_of (entry_of t))) (text_made u)) (drop-drop 10 at s)
 
-    spare : 10 ≤ length t → (e : Entry) → entry_of t ≡ Whole e → (b : Bool) → eqb e.spare 0 ≡ b → Tells s at (cond b (Whole e) (Refused NotZero))
+    spare : 10 ≤ length t → (e : Entry) → entry_of t ≡ Ok e → (b : Bool) → eqb e.spare 0 ≡ b → Tells s at (cond b (Ok e) (Err NotZero))
     spare l e q true p = (made l ∙ rw (q, p), omega (arith, length-drop at s))
     spare l e q false p = made l ∙ rw (q, p)
 
-    whole : 10 ≤ length t → (r : EntryRead) → entry_of t ≡ r → Tells s at (plain_of r)
-    whole l (Refused r) q = made l ∙ rw q
-    whole l (Whole e) q = spare l e q (eqb e.spare 0) refl
+    whole : 10 ≤ length t → (r : Result Entry Refusal) → entry_of t ≡ r → Tells s at (plain_of r)
+    whole l (Err r) q = made l ∙ rw q
+    whole l (Ok e) q = spare l e q (eqb e.spare 0) refl
 
 -- the same of an answer that is known, about the bytes that are lent from there on
-pub part_tells : (s : List ℕ) (at : ℕ) (r : EntryRead) → at < length s → plain_of (entry_of (take (length s - at) (drop at s))) ≡ r → Tells s at r
+pub part_tells : (s : List ℕ) (at : ℕ) (r : Result Entry Refusal) → at < length s → plain_of (entry_of (take (length s - at) (drop at s))) ≡ r → Tells s at r
 part_tells s at r h e = subst (Tells s at) (ap (λ (u : List ℕ). plain_of (entry_of u)) (sym (part s at)) ∙ e) (entry_tells s at h)
 
 -- how long the line of an entry is

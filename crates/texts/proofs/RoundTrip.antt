@@ -1,4 +1,5 @@
 -- Schedules as text: which texts are taken and what becomes of them, and that each direction gives back what the other was given. Assumes nothing.
+use Rattle.std.specs.Prelude.{Ok}
 use Prim.Native.Nat.{ℕ, ◌+◌, ◌*◌, ◌≤◌, ◌<◌}
 use native.Mathlib.Omega.{arith}
 use mathlib.Core.Path.{◌≡◌, sym, ap, ◌∙◌}
@@ -6,7 +7,7 @@ use mathlib.Core.List.{List, [], ◌∷◌, ◌++◌}
 use lib.ListN.{length, length-append, take}
 use Rattle.wire.specs.Bytes.{Bytes}
 use Rattle.entries.specs.Entry.{entry_bytes}
-use Rattle.texts.specs.Types.{TooLong, NotALine, TooLarge, Written}
+use Rattle.texts.specs.Types.{TooLong, NotALine, TooLarge}
 use Rattle.texts.specs.Line.{newline, Line}
 use Rattle.texts.specs.Made.{Made, good, bad, behind, answered, laid}
 use Rattle.texts.specs.Text.{newlines, imported, exported}
@@ -103,8 +104,8 @@ line_open {n} {t} {s} ls h u l z = described_import (omega (arith, newlines-appe
 
 -- By what the functions hand back: a text that was imported into a buffer, n bytes of it, and is exported from there, is the same text; and entries
 -- that were exported and are imported are the same entries.
-pub import_then_export : (t o : List ℕ) (n : ℕ) → answered (imported t) (length o) ≡ Written n → exported (take n (laid (imported t) o)) ≡ good t
+pub import_then_export : (t o : List ℕ) (n : ℕ) → answered (imported t) (length o) ≡ Ok n → exported (take n (laid (imported t) o)) ≡ good t
 import_then_export t o n h = let r = written-laid (imported t) o n h in rw r.2 (export_of_import t r.0 r.1)
 
-pub export_then_import : (s o : List ℕ) (n : ℕ) → Bytes s → answered (exported s) (length o) ≡ Written n → imported (take n (laid (exported s) o)) ≡ good s
+pub export_then_import : (s o : List ℕ) (n : ℕ) → Bytes s → answered (exported s) (length o) ≡ Ok n → imported (take n (laid (exported s) o)) ≡ good s
 export_then_import s o n small h = let r = written-laid (exported s) o n h in rw r.2 (import_of_export r.0 s small r.1)

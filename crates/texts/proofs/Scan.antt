@@ -1,4 +1,5 @@
 -- A line read once from its front: four numbers, each with the byte that closes it, are the line that the newline closes. Assumes nothing.
+use Rattle.std.specs.Prelude.{Some, None, Result, Ok, Err}
 use Prim.Native.Nat.{ℕ, suc, ◌+◌, ◌-◌, ◌≤◌, ◌<◌}
 use native.Mathlib.Omega.{arith}
 use native.Mathlib.Nat.{min-eq_left}
@@ -14,11 +15,13 @@ use borrow.Author.Tests.{lt-leb, leb-true, lt-ltb, le-ltb, ltb-true, ltb-false, 
 use Rattle.tallies.proofs.Lists.{both, either}
 use Rattle.digits.specs.Decimal.{is_digit, all_digits, is_number, value_of, lead, capped, number_at}
 use Rattle.digits.proofs.Laws.{number_digits}
-use Rattle.texts.specs.Types.{Number, NoNumber, LineRead, ALine, BadLine, NotALine, TooLarge}
+use Rattle.texts.specs.Types.{NotALine, TooLarge}
 use Rattle.texts.specs.Line.{comma, newline, bare, small, entry_with, Line, up_to, past, is_line, fits}
 use Rattle.texts.specs.Steps.{closed_by, field_at, sized, is_closed, line_in, line_at}
 use Rattle.texts.proofs.Parts.{up_to_lem, up_to-none, parted}
 use Rattle.texts.proofs.Lines.{bare_text, bare_of, bare-line, bare-free, line-task, line-kind, line-cell, line-value, is_line_lem}
+use Rattle.entries.specs.declared.Entry.{Entry}
+use Rattle.answers.specs.declared.Refusal.{Refusal}
 
 -- the digits that a text starts with, up to a byte that is none
 lead_of : (y : List ℕ) (c : ℕ) (u : List ℕ) → all_digits y ≡ true → is_digit c ≡ false → lead (y ++ c ∷ u) ≡ y
@@ -32,37 +35,37 @@ lead_prefix [] = refl
 lead_prefix (b ∷ t) = either (λ d. b ∷ t ≡ cond d (b ∷ lead t) [] ++ drop (length (cond d (b ∷ lead t) [])) (b ∷ t)) (is_digit b) (λ d. ap (λ (l : List ℕ). b ∷ l) (lead_prefix t)) (λ d. refl)
 
 -- two numbers read
-number-value : (v i w j : ℕ) → Number v i ≡ Number w j → v ≡ w
+number-value : (v i w j : ℕ) → Some (v, i) ≡ Some (w, j) → v ≡ w
 number-value v i w j h = cc
 
-number_place : (v i w j : ℕ) → Number v i ≡ Number w j → i ≡ j
+number_place : (v i w j : ℕ) → Some (v, i) ≡ Some (w, j) → i ≡ j
 number_place v i w j h = cc
 
-number-none : (v i : ℕ) → Number v i ≡ NoNumber → ⊥
+number-none : (v i : ℕ) → Some (v, i) ≡ None → ⊥
 number-none v i h = let z : ◌≡◌ {A = ℕ} 0 1 = cc in omega arith
 
 -- how a field is told from the number and the byte behind it
 module _ (close : ℕ) (s : List ℕ) (at : ℕ) where
-  pub field_none : number_at s at ≡ NoNumber → NoNumber ≡ field_at close s at
+  pub field_none : number_at s at ≡ None → None ≡ field_at close s at
   unfolding field_at
   field_none h = rw h
 
-  module _ (v end : ℕ) (h : number_at s at ≡ Number v end) where
-    pub field_end : length s ≤ end → NoNumber ≡ field_at close s at
+  module _ (v end : ℕ) (h : number_at s at ≡ Some (v, end)) where
+    pub field_end : length s ≤ end → None ≡ field_at close s at
     unfolding field_at
     field_end l = rw (h, le-ltb end (length s) l)
 
-    pub field_other : (get_or s end 0 ≡ close → ⊥) → NoNumber ≡ field_at close s at
+    pub field_other : (get_or s end 0 ≡ close → ⊥) → None ≡ field_at close s at
     unfolding field_at
     field_other n = rw (h, ne_eqb (get_or s end 0) close n, and-false)
 
-    pub field_found : end < length s → get_or s end 0 ≡ close → Number v (end + 1) ≡ field_at close s at
+    pub field_found : end < length s → get_or s end 0 ≡ close → Some (v, end + 1) ≡ field_at close s at
     unfolding field_at
     field_found l e = rw (h, lt-ltb end (length s) l, eq-eqb (get_or s end 0) close e)
 
 -- a number in front of its closing byte is read
 module _ (close : ℕ) (none : is_digit close ≡ false) (s : List ℕ) (at : ℕ) (y u : List ℕ) (hy : is_number y ≡ true) (e : drop at s ≡ y ++ close ∷ u) where
-  pub field_of : field_at close s at ≡ Number (capped (value_of y)) (at + length y + 1)
+  pub field_of : field_at close s at ≡ Some (capped (value_of y), at + length y + 1)
   unfolding field_at number_at
   field_of =
       let l : lead (drop at s) ≡ y = ap lead e ∙ lead_of y close u (number_digits y hy) none in
@@ -76,7 +79,7 @@ module _ (close : ℕ) (none : is_digit close ≡ false) (s : List ℕ) (at : �
       rw sum (sym (drop-drop (length y + 1) at s) ∙ ap (drop (length y + 1)) e ∙ drop-append-add y (close ∷ u) 1)
 
   -- and reading goes on behind it
-  pub next_of : (v i : ℕ) → field_at close s at ≡ Number v i → drop i s ≡ u
+  pub next_of : (v i : ℕ) → field_at close s at ≡ Some (v, i) → drop i s ≡ u
   next_of v i h = rw (number_place v i (capped (value_of y)) (at + length y + 1) (sym h ∙ field_of)) rest_of
 
 -- a number and its closing byte that were read
@@ -87,7 +90,7 @@ pub record Field (close : ℕ) (s : List ℕ) (at v next : ℕ) : Type 0 where
   pub place : next ≡ at + length number + 1
   pub text : drop at s ≡ number ++ close ∷ drop next s
 
-pub of_field : (close : ℕ) (s : List ℕ) (at v next : ℕ) → field_at close s at ≡ Number v next → Field close s at v next
+pub of_field : (close : ℕ) (s : List ℕ) (at v next : ℕ) → field_at close s at ≡ Some (v, next) → Field close s at v next
 unfolding field_at number_at
 of_field close s at v next = number (is_number x) refl
   where
@@ -97,7 +100,7 @@ of_field close s at v next = number (is_number x) refl
     end : ℕ
     end = at + length x
 
-    found : is_number x ≡ true → end < length s → get_or s end 0 ≡ close → Number (capped (value_of x)) (end + 1) ≡ Number v next → Field close s at v next
+    found : is_number x ≡ true → end < length s → get_or s end 0 ≡ close → Some (capped (value_of x), end + 1) ≡ Some (v, next) → Field close s at v next
     found n l c h =
         let p : end + 1 ≡ next = number_place (capped (value_of x)) (end + 1) v next h in
         let sum : end + 1 ≡ suc end = omega arith in
@@ -110,12 +113,12 @@ of_field close s at v next = number (is_number x) refl
         }
 
     closing : is_number x ≡ true → (a b : Bool) → ltb end (length s) ≡ a → eqb (get_or s end 0) close ≡ b
-        → cond (a && b) (Number (capped (value_of x)) (end + 1)) NoNumber ≡ Number v next → Field close s at v next
+        → cond (a && b) (Some (capped (value_of x), end + 1)) None ≡ Some (v, next) → Field close s at v next
     closing n true true p q h = found n (ltb-true end (length s) p) (eqb-true (get_or s end 0) close q) h
     closing n true false p q h = absurd (number-none v next (sym h))
     closing n false b p q h = absurd (number-none v next (sym h))
 
-    number : (z : Bool) → is_number x ≡ z → closed_by close s (cond z (Number (capped (value_of x)) end) NoNumber) ≡ Number v next → Field close s at v next
+    number : (z : Bool) → is_number x ≡ z → closed_by close s (cond z (Some (capped (value_of x), end)) None) ≡ Some (v, next) → Field close s at v next
     number true n h = closing n (ltb end (length s)) (eqb (get_or s end 0) close) refl refl h
     number false n h = absurd (number-none v next (sym h))
 
@@ -139,11 +142,11 @@ sized-capped a b c d n =
     rw (is a 255 (omega arith) o.0, is b 255 (omega arith) o.1, is c 255 (omega arith) r.1, is d 4294967295 (omega arith) p.1))
     (λ h q. refl) refl)
   where
-    line : ℕ → ℕ → ℕ → ℕ → LineRead
-    line a b c d = ALine (entry_with a b c d) n
+    line : ℕ → ℕ → ℕ → ℕ → Result (Entry × ℕ) Refusal
+    line a b c d = Ok (entry_with a b c d, n)
 
-    none : LineRead
-    none = BadLine TooLarge
+    none : Result (Entry × ℕ) Refusal
+    none = Err TooLarge
 
     is : (v k : ℕ) → k < 4294967296 → leb v k ≡ true → capped v ≡ v
     is v k h q = min-eq_left (omega (arith, leb-true v k q))
@@ -222,39 +225,39 @@ parsed t h =
     }
 
 -- where one of the four fields is missing there is no line
-no_line : (s : List ℕ) (at : ℕ) → (Parsed (drop at s) → ⊥) → line_at s at ≡ BadLine NotALine
+no_line : (s : List ℕ) (at : ℕ) → (Parsed (drop at s) → ⊥) → line_at s at ≡ Err NotALine
 unfolding line_at
 no_line s at n =
-    either (λ t. is_closed (drop at s) && is_line (up_to newline (drop at s)) ≡ t → cond t (line_in (up_to newline (drop at s)) (at + length (up_to newline (drop at s)) + 1)) (BadLine NotALine) ≡ BadLine NotALine)
+    either (λ t. is_closed (drop at s) && is_line (up_to newline (drop at s)) ≡ t → cond t (line_in (up_to newline (drop at s)) (at + length (up_to newline (drop at s)) + 1)) (Err NotALine) ≡ Err NotALine)
     (is_closed (drop at s) && is_line (up_to newline (drop at s))) (λ h q. absurd (n (parsed (drop at s) q))) (λ h q. refl) refl
 
 module _ (s : List ℕ) (at : ℕ) where
-  second : (p : Parsed (drop at s)) → field_at comma s at ≡ Number (capped (value_of p.line.task)) (at + length p.line.task + 1)
+  second : (p : Parsed (drop at s)) → field_at comma s at ≡ Some (capped (value_of p.line.task), at + length p.line.task + 1)
   second p = field_of comma refl s at p.line.task _ p.line.task_number p.text
 
-  pub no_first : field_at comma s at ≡ NoNumber → line_at s at ≡ BadLine NotALine
+  pub no_first : field_at comma s at ≡ None → line_at s at ≡ Err NotALine
   no_first h = no_line s at (λ p. number-none _ _ (sym (second p) ∙ h))
 
-  module _ (a i : ℕ) (f : field_at comma s at ≡ Number a i) where
+  module _ (a i : ℕ) (f : field_at comma s at ≡ Some (a, i)) where
     from_kind : (p : Parsed (drop at s)) → drop i s ≡ p.line.kind ++ comma ∷ (p.line.cell ++ comma ∷ (p.line.value ++ newline ∷ p.rest))
     from_kind p = next_of comma refl s at p.line.task _ p.line.task_number p.text a i f
 
-    pub no_second : field_at comma s i ≡ NoNumber → line_at s at ≡ BadLine NotALine
+    pub no_second : field_at comma s i ≡ None → line_at s at ≡ Err NotALine
     no_second h = no_line s at (λ p. number-none _ _ (sym (field_of comma refl s i p.line.kind _ p.line.kind_number (from_kind p)) ∙ h))
 
-    module _ (b j : ℕ) (g : field_at comma s i ≡ Number b j) where
+    module _ (b j : ℕ) (g : field_at comma s i ≡ Some (b, j)) where
       from_cell : (p : Parsed (drop at s)) → drop j s ≡ p.line.cell ++ comma ∷ (p.line.value ++ newline ∷ p.rest)
       from_cell p = next_of comma refl s i p.line.kind _ p.line.kind_number (from_kind p) b j g
 
-      pub no_third : field_at comma s j ≡ NoNumber → line_at s at ≡ BadLine NotALine
+      pub no_third : field_at comma s j ≡ None → line_at s at ≡ Err NotALine
       no_third h = no_line s at (λ p. number-none _ _ (sym (field_of comma refl s j p.line.cell _ p.line.cell_number (from_cell p)) ∙ h))
 
-      module _ (c k : ℕ) (l : field_at comma s j ≡ Number c k) where
+      module _ (c k : ℕ) (l : field_at comma s j ≡ Some (c, k)) where
         from_value : (p : Parsed (drop at s)) → drop k s ≡ p.line.value ++ newline ∷ p.rest
         from_value p = next_of comma refl s j p.line.cell _ p.line.cell_number (from_cell p) c k l
 
-        pub no_fourth : field_at newline s k ≡ NoNumber → line_at s at ≡ BadLine NotALine
+        pub no_fourth : field_at newline s k ≡ None → line_at s at ≡ Err NotALine
         no_fourth h = no_line s at (λ p. number-none _ _ (sym (field_of newline refl s k p.line.value _ p.line.value_number (from_value p)) ∙ h))
 
-        pub all_four : (d next : ℕ) → field_at newline s k ≡ Number d next → line_at s at ≡ sized a b c d next
+        pub all_four : (d next : ℕ) → field_at newline s k ≡ Some (d, next) → line_at s at ≡ sized a b c d next
         all_four d next m = line_read s at a i b j c k d next (of_field comma s at a i f) (of_field comma s i b j g) (of_field comma s j c k l) (of_field newline s k d next m)

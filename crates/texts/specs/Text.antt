@@ -1,11 +1,13 @@
 -- A schedule as text, and as entry bytes: each made from the other.
-use Rattle.std.specs.Prelude.{ℕ, zero, suc, ◌+◌, cond, not, List, [], ◌∷◌, ◌++◌, map, eqb, ltb, length}
+use Rattle.std.specs.Prelude.{ℕ, zero, suc, ◌+◌, cond, not, List, [], ◌∷◌, ◌++◌, map, eqb, ltb, length, Result, Ok, Err}
 use Rattle.tallies.specs.Tally.{bit}
 use Rattle.entries.specs.Entry.{entry_of, entry_bytes}
 use Rattle.entries.specs.Schedule.{entries_of}
-use Rattle.texts.specs.Types.{EntryRead, Whole, Refused, NotZero, TooLong, NotALine, TooLarge}
+use Rattle.texts.specs.Types.{NotZero, TooLong, NotALine, TooLarge}
 use Rattle.texts.specs.Line.{newline, up_to, past, is_line, fits, entry_in, line_of}
 use Rattle.texts.specs.Made.{Made, good, bad, gathered}
+use Rattle.entries.specs.declared.Entry.{Entry}
+use Rattle.answers.specs.declared.Refusal.{Refusal}
 
 -- Import.
 
@@ -51,14 +53,14 @@ imported t = cond (ltb 6553 (newlines t)) (bad TooLong) (bytes_made t)  -- 23
 -- Export.
 
 -- an entry whose sixth byte is zero; nothing else is tested beside 20 and 19
-abbrev pub plain_of : EntryRead → EntryRead
-plain_of (Refused r) = Refused r
-plain_of (Whole e) = cond (eqb e.spare 0) (Whole e) (Refused NotZero)  -- 15
+abbrev pub plain_of : Result Entry Refusal → Result Entry Refusal
+plain_of (Err r) = Err r
+plain_of (Ok e) = cond (eqb e.spare 0) (Ok e) (Err NotZero)  -- 15
 
 -- a line from an entry's bytes
-abbrev pub plain_made : EntryRead → Made
-plain_made (Refused r) = bad r
-plain_made (Whole e) = good (line_of e)
+abbrev pub plain_made : Result Entry Refusal → Made
+plain_made (Err r) = bad r
+plain_made (Ok e) = good (line_of e)
 
 abbrev pub entry_made : List ℕ → Made
 entry_made b = plain_made (plain_of (entry_of b))

@@ -12,40 +12,20 @@ ghost use Rattle.texts.specs.Text.{newlines, bytes_made, imported, plain_of, tex
 ghost use Rattle.texts.specs.Steps.{field_at, sized, line_at, length_of, is_good};
 
 use answers::Refusal;
-use digits::NumberRead;
-use entries::{Entry, EntryRead};
+use entries::Entry;
 use tasks::{CellNo, TaskNo};
 
-// How many bytes were written, or why none was.
-#[derive(Clone, Copy)]
-pub enum TextAnswer {
-    Written(usize),
-    NotWritten(Refusal),
-}
-
-// The entry that a line stands for, and the place behind the line; or why it is bad, 30 or 31.
-#[derive(Clone, Copy)]
-enum LineRead {
-    ALine(Entry, usize),
-    BadLine(Refusal),
-}
-
-pub fn text_number(a: TextAnswer) -> u8
+// The number of an answer: 0, or the refusal's.
+pub fn text_number(a: Result<usize, Refusal>) -> u8
     ensures { result ≡ text_number a }
 {
-    match a {
-        TextAnswer::Written(_) => 0,
-        TextAnswer::NotWritten(r) => answers::refusal_number(r),
-    }
+    answers::refusal_or_0(a)
 }
 
-pub fn text_bytes(a: TextAnswer) -> usize
+pub fn text_bytes(a: Result<usize, Refusal>) -> usize
     ensures { result ≡ text_bytes a }
 {
-    match a {
-        TextAnswer::Written(n) => n,
-        TextAnswer::NotWritten(_) => 0,
-    }
+    a.unwrap_or(0)
 }
 
 // Import.
@@ -70,40 +50,35 @@ fn newlines(text: &[u8]) -> usize
 }
 
 // A number and the byte that closes it.
-fn field_at(s: &[u8], at: usize, close: u8) -> NumberRead
+fn field_at(s: &[u8], at: usize, close: u8) -> Option<(u64, usize)>
     ensures { result ≡ field_at close s.now at }
 {
-    let read = digits::number_at(s, at);
-    match read {
-        NumberRead::NoNumber => NumberRead::NoNumber,
-        NumberRead::Number(value, end) => {
-            if s.len() <= end {
-                return NumberRead::NoNumber; // nothing closes it
-            }
-            if s[end] != close {
-                return NumberRead::NoNumber;
-            }
-            NumberRead::Number(value, end + 1)
-        }
+    let (value, end) = digits::number_at(s, at)?;
+    if s.len() <= end {
+        return None; // nothing closes it
     }
+    if s[end] != close {
+        return None;
+    }
+    Some((value, end + 1))
 }
 
-// The sizes of a line's numbers (31).
+// The entry of a line's numbers, and the place behind the line; or 31 for a number too large.
 #[tactic(auto, unfolding(crate::specs::Steps::sized))]
-fn sized(task: u64, kind: u64, cell: u64, value: u64, next: usize) -> LineRead
+fn sized(task: u64, kind: u64, cell: u64, value: u64, next: usize) -> Result<(Entry, usize), Refusal>
     ensures { result ≡ sized task kind cell value next }
 {
     if 255 < task {
-        return LineRead::BadLine(Refusal::TooLarge);
+        return Err(Refusal::TooLarge);
     }
     if 255 < kind {
-        return LineRead::BadLine(Refusal::TooLarge);
+        return Err(Refusal::TooLarge);
     }
     if 255 < cell {
-        return LineRead::BadLine(Refusal::TooLarge);
+        return Err(Refusal::TooLarge);
     }
     if 4294967295 < value {
-        return LineRead::BadLine(Refusal::TooLarge);
+        return Err(Refusal::TooLarge);
     }
     let e = Entry {
         task: TaskNo(task as u8),
@@ -112,34 +87,34 @@ fn sized(task: u64, kind: u64, cell: u64, value: u64, next: usize) -> LineRead
         spare: 0,
         value: value as u32,
     };
-    LineRead::ALine(e, next)
+    Ok((e, next))
 }
 
-// One line, read once from its front: the form of all of it (30) comes before its sizes.
-fn line_at(s: &[u8], at: usize) -> LineRead
+// One line, read once from its front: the form of all of it (30) comes before its sizes (31).
+fn line_at(s: &[u8], at: usize) -> Result<(Entry, usize), Refusal>
     ensures { result ≡ line_at s.now at }
 {
     let first = field_at(s, at, b',');
-    let NumberRead::Number(task, kind_at) = first else {
-        return LineRead::BadLine(Refusal::NotALine);
+    let Some((task, kind_at)) = first else {
+        return Err(Refusal::NotALine);
     };
     let second = field_at(s, kind_at, b',');
-    let NumberRead::Number(kind, cell_at) = second else {
-        return LineRead::BadLine(Refusal::NotALine);
+    let Some((kind, cell_at)) = second else {
+        return Err(Refusal::NotALine);
     };
     let third = field_at(s, cell_at, b',');
-    let NumberRead::Number(cell, value_at) = third else {
-        return LineRead::BadLine(Refusal::NotALine);
+    let Some((cell, value_at)) = third else {
+        return Err(Refusal::NotALine);
     };
     let fourth = field_at(s, value_at, b'\n');
-    let NumberRead::Number(value, next) = fourth else {
-        return LineRead::BadLine(Refusal::NotALine); // nor is a line without its newline one
+    let Some((value, next)) = fourth else {
+        return Err(Refusal::NotALine); // nor is a line without its newline one
     };
     sized(task, kind, cell, value, next)
 }
 
 // Every line is looked at, and nothing is written: how many bytes they make, or the first bad one's refusal.
-fn check_lines(text: &[u8]) -> TextAnswer
+fn check_lines(text: &[u8]) -> Result<usize, Refusal>
     requires { newlines text.now ≤ 6553 }
     ensures { result ≡ length_of (bytes_made text.now) }
 {
@@ -149,14 +124,14 @@ fn check_lines(text: &[u8]) -> TextAnswer
     while at < n {
         let line = line_at(text, at);
         match line {
-            LineRead::BadLine(r) => return TextAnswer::NotWritten(r),
-            LineRead::ALine(_, next) => {
+            Err(r) => return Err(r),
+            Ok((_, next)) => {
                 made += 10;
                 at = next;
             }
         }
     }
-    TextAnswer::Written(made)
+    Ok(made)
 }
 
 // The entries of lines that are good, into a buffer that has room for them.
@@ -170,8 +145,8 @@ fn write_entries(text: &[u8], entries: &mut [u8])
     while at < n {
         let line = line_at(text, at);
         match line {
-            LineRead::BadLine(_) => return,
-            LineRead::ALine(e, next) => {
+            Err(_) => return,
+            Ok((e, next)) => {
                 entries::put_entry(entries, to, e);
                 to += 10;
                 at = next;
@@ -181,41 +156,31 @@ fn write_entries(text: &[u8], entries: &mut [u8])
 }
 
 // Text to entry bytes.
-pub fn import(text: &[u8], entries: &mut [u8]) -> TextAnswer
+pub fn import(text: &[u8], entries: &mut [u8]) -> Result<usize, Refusal>
     ensures { (result ≡ answered (imported text.now) (length entries.old)) × (entries.new ≡ laid (imported text.now) entries.old) }
 {
     if 6553 < newlines(text) {
-        return TextAnswer::NotWritten(Refusal::TooLong);
+        return Err(Refusal::TooLong);
     }
-    let checked = check_lines(text);
-    match checked {
-        TextAnswer::NotWritten(r) => TextAnswer::NotWritten(r),
-        TextAnswer::Written(n) => {
-            if entries.len() < n {
-                return TextAnswer::NotWritten(Refusal::OutputShort);
-            }
-            write_entries(text, entries);
-            TextAnswer::Written(n)
-        }
+    let n = check_lines(text)?;
+    if entries.len() < n {
+        return Err(Refusal::OutputShort);
     }
+    write_entries(text, entries);
+    Ok(n)
 }
 
 // Export.
 
 // The entry at the front of s, with the tests that export makes (20, 19, 15).
-fn plain_entry(s: &[u8]) -> EntryRead
+fn plain_entry(s: &[u8]) -> Result<Entry, Refusal>
     ensures { result ≡ plain_of (entry_of s.now) }
 {
-    let read = entries::read_entry(s);
-    match read {
-        EntryRead::Refused(r) => EntryRead::Refused(r),
-        EntryRead::Whole(e) => {
-            if e.spare != 0 {
-                return EntryRead::Refused(Refusal::NotZero);
-            }
-            EntryRead::Whole(e)
-        }
+    let e = entries::read_entry(s)?;
+    if e.spare != 0 {
+        return Err(Refusal::NotZero);
     }
+    Ok(e)
 }
 
 // Four numbers of at most ten digits, three commas and a newline.
@@ -230,7 +195,7 @@ fn line_length(e: Entry) -> usize
 }
 
 // Every entry is looked at, and nothing is written: how many bytes their lines have, or the first bad one's refusal.
-fn check_entries(entries: &[u8]) -> TextAnswer
+fn check_entries(entries: &[u8]) -> Result<usize, Refusal>
     requires { length entries.now ≤ 65530 }
     ensures { result ≡ length_of (text_made entries.now) }
 {
@@ -240,14 +205,14 @@ fn check_entries(entries: &[u8]) -> TextAnswer
     while at < n {
         let read = plain_entry(&entries[at..]);
         match read {
-            EntryRead::Refused(r) => return TextAnswer::NotWritten(r),
-            EntryRead::Whole(e) => {
+            Err(r) => return Err(r),
+            Ok(e) => {
                 made += line_length(e);
                 at += 10;
             }
         }
     }
-    TextAnswer::Written(made)
+    Ok(made)
 }
 
 // A number and the byte that closes it; answers where they end.
@@ -281,8 +246,8 @@ fn write_lines(entries: &[u8], text: &mut [u8])
     while at < n {
         let read = plain_entry(&entries[at..]);
         match read {
-            EntryRead::Refused(_) => return,
-            EntryRead::Whole(e) => {
+            Err(_) => return,
+            Ok(e) => {
                 to = put_line(text, to, e);
                 at += 10;
             }
@@ -291,21 +256,16 @@ fn write_lines(entries: &[u8], text: &mut [u8])
 }
 
 // Entry bytes to text.
-pub fn export(entries: &[u8], text: &mut [u8]) -> TextAnswer
+pub fn export(entries: &[u8], text: &mut [u8]) -> Result<usize, Refusal>
     ensures { (result ≡ answered (exported entries.now) (length text.old)) × (text.new ≡ laid (exported entries.now) text.old) }
 {
     if 65530 < entries.len() {
-        return TextAnswer::NotWritten(Refusal::TooLong);
+        return Err(Refusal::TooLong);
     }
-    let checked = check_entries(entries);
-    match checked {
-        TextAnswer::NotWritten(r) => TextAnswer::NotWritten(r),
-        TextAnswer::Written(n) => {
-            if text.len() < n {
-                return TextAnswer::NotWritten(Refusal::OutputShort);
-            }
-            write_lines(entries, text);
-            TextAnswer::Written(n)
-        }
+    let n = check_entries(entries)?;
+    if text.len() < n {
+        return Err(Refusal::OutputShort);
     }
+    write_lines(entries, text);
+    Ok(n)
 }

@@ -1,12 +1,11 @@
 // One entry over lent tables: decided, and written back where it lies. All that is held meanwhile is one task's record and the place that changes.
 #![tactic(auto)]
 
-ghost use Rattle.std.specs.Prelude.{◌≡◌, ◌≢◌, ◌≤◌};
+ghost use Rattle.std.specs.Prelude.{◌≡◌, ◌≢◌, ◌≤◌, Err};
 ghost use Rattle.steps.specs.Table.{effect_of};
 ghost use Rattle.entries.specs.Order.{order_of};
 ghost use Rattle.entries.specs.Asking.{entry_by};
 ghost use Rattle.cells.specs.Machine.{seen_in};
-ghost use Rattle.turns.specs.Types.{Refuses};
 ghost use Rattle.turns.specs.Turned.{turned_of, Carries};
 
 use answers::{Answer, Refusal};
@@ -24,12 +23,12 @@ pub struct Turned {
 
 // A refusal leaves the record as it was.
 fn refused(t: Task, free: u8, r: Refusal) -> Turned
-    ensures { result ≡ turned_of (Refuses r) t free }
+    ensures { result ≡ turned_of (Err r) t free }
 {
     Turned {
         task: t,
         free: free,
-        answer: Answer::Refused(r),
+        answer: Err(r),
     }
 }
 
@@ -45,8 +44,8 @@ pub fn carry(
     ensures { Carries e t free result cells.old values.old counts.old cells.new values.new counts.new }
 {
     match e {
-        Effect::Refuses(r) => refused(t, free, r),
-        Effect::Does(d) => {
+        Err(r) => refused(t, free, r),
+        Ok(d) => {
             let u = d.task;
             let w = d.write;
             let r = d.reply;
@@ -54,7 +53,7 @@ pub fn carry(
             cells::write_values(values, w);
             cells::write_counts(counts, w);
             let left = cells::write_free(free, w);
-            let answer = Answer::Replied(r);
+            let answer = Ok(r);
             Turned {
                 task: u,
                 free: left,
@@ -177,11 +176,11 @@ pub fn turn(
     ensures { Carries (order_of n p (entry_by q kind x spare y) t (seen_in cells.old values.old counts.old t p k free)) t free result cells.old values.old counts.old cells.new values.new counts.new }
 {
     match entries::asks(n, p, q, kind, x, spare, y) {
-        Asked::Faulty(r) => refused(t, free, r),
-        Asked::ToGo => go(p, k, free, cells, values, counts, t),
-        Asked::ToLoad(x) => carry(cells, values, counts, free, t, entries::load(t, x)),
-        Asked::ToStore(x, y) => carry(cells, values, counts, free, t, entries::store(t, x, y)),
-        Asked::ToRelease => carry(
+        Err(r) => refused(t, free, r),
+        Ok(Asked::ToGo) => go(p, k, free, cells, values, counts, t),
+        Ok(Asked::ToLoad(x)) => carry(cells, values, counts, free, t, entries::load(t, x)),
+        Ok(Asked::ToStore(x, y)) => carry(cells, values, counts, free, t, entries::store(t, x, y)),
+        Ok(Asked::ToRelease) => carry(
             cells,
             values,
             counts,
@@ -189,7 +188,7 @@ pub fn turn(
             t,
             entries::linked_call(t, Call::Release),
         ),
-        Asked::ToValidate => carry(
+        Ok(Asked::ToValidate) => carry(
             cells,
             values,
             counts,

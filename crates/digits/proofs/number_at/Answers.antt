@@ -1,6 +1,7 @@
 -- `number_at`: by how many digits there are, and by the first one.
+use Rattle.std.specs.Prelude.{Some}
 use Rattle.std.proofs.Common.{◌≡◌, ℕ, ◌+◌, List, length, drop, ap, sym, ◌∙◌, arith}
-use Rattle.digits.specs.Types.{Number, Digits}
+use Rattle.digits.specs.Types.{Digits}
 use Rattle.digits.specs.Decimal.{lead, digits_at}
 use Rattle.digits.proofs.Reading.{lead-ends, number-none, number_one, number-zero, number_more}
 use Rattle.digits.proofs.number_at.Goals as goal
@@ -20,7 +21,7 @@ returns-then-end-at c =
 pub returns-then-end-at-2 : goal.returns-then-end-at-2
 returns-then-end-at-2 c =
     let e = end_is c.digits_at-d.result c.args.s.now c.args.at c.digits_at-d.ensures in
-    ap (λ (r : Digits). Number r.value r.end) c.digits_at-d.ensures ∙ sym (number_one c.args.s.now c.args.at (omega (arith, c.if-end-at-2.true)))
+    ap (λ (r : Digits). Some (r.value, r.end)) c.digits_at-d.ensures ∙ sym (number_one c.args.s.now c.args.at (omega (arith, c.if-end-at-2.true)))
 
 pub returns-then-s-at-eq48 : goal.returns-then-s-at-eq48
 returns-then-s-at-eq48 c =
@@ -30,4 +31,4 @@ returns-then-s-at-eq48 c =
 pub returns : goal.returns
 returns c =
     let e = end_is c.digits_at-d.result c.args.s.now c.args.at c.digits_at-d.ensures in
-    ap (λ (r : Digits). Number r.value r.end) c.digits_at-d.ensures ∙ sym (number_more c.args.s.now c.args.at (omega (arith, c.if-end-at.false, c.if-end-at-2.false)) c.if-s-at-eq48.false)
+    ap (λ (r : Digits). Some (r.value, r.end)) c.digits_at-d.ensures ∙ sym (number_more c.args.s.now c.args.at (omega (arith, c.if-end-at.false, c.if-end-at-2.false)) c.if-s-at-eq48.false)

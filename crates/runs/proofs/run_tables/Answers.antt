@@ -44,15 +44,15 @@ returns-then-not-starts_with c =
     _ (c.reply-then-not-starts_with.ensures ∙ ap (λ (z : ℕ). overlaid l.out (8 * l.i) (reply_of z 0 0)) e)
     _ (ap (λ (z : ℕ). refused_at z l.report) e) _ c.note-then-not-starts_with.ensures)
 
-pub returns-in-Refused : goal.returns-in-Refused
-returns-in-Refused c =
+pub returns-in-Err : goal.returns-in-Err
+returns-in-Err c =
     let l = c.loop-i in
     let s = c.args.s.now in
     let x = take (10 * l.i + 10 - 10 * l.i) (drop (10 * l.i) s) in
     let here : c.copied-t.result ≡ get_or l.tasks (min (get_or x 2 0) 15) no_task = c.copied-t.ensures ∙ ap (λ (k : ℕ). get_or l.tasks k no_task) c.slot-j.ensures in
-    rw c.stop-in-Refused.ensures
+    rw c.stop-in-Err.ensures
     (stopped l.invariant c.loop-i-test.true c.requires.1 x (whole s l.i) c.if-len-at-lt10.false (sym (c.if-not-starts_with.ensures {u = tt})) _ here _ c.word_at-y.ensures _ _ _ _ c.turn-d.ensures
-    _ c.number-number.ensures _ c.value.ensures _ c.reply-in-loop-i.ensures (ap accepted c.in-Refused.is) _ refl _ c.note-in-Refused.ensures)
+    _ c.number-number.ensures _ c.value.ensures _ c.reply-in-loop-i.ensures (ap accepted c.in-Err.is) _ refl _ c.note-in-Err.ensures)
 
 pub loop-i-preserved : goal.loop-i-preserved
 loop-i-preserved c =
@@ -61,7 +61,7 @@ loop-i-preserved c =
     let x = take (10 * l.i + 10 - 10 * l.i) (drop (10 * l.i) s) in
     let here : c.copied-t.result ≡ get_or l.tasks (min (get_or x 2 0) 15) no_task = c.copied-t.ensures ∙ ap (λ (k : ℕ). get_or l.tasks k no_task) c.slot-j.ensures in
     went_on l.invariant c.loop-i-test.true c.requires.1 x (whole s l.i) c.if-len-at-lt10.false (sym (c.if-not-starts_with.ensures {u = tt})) _ here _ c.word_at-y.ensures _ _ _ _ c.turn-d.ensures
-    _ c.number-number.ensures _ c.value.ensures _ c.reply-in-loop-i.ensures (ap accepted c.in-Replied.is) _ c.slot-j.ensures _ c.copied-u.ensures _ c.counted-report.ensures _ c.note-in-Replied.ensures
+    _ c.number-number.ensures _ c.value.ensures _ c.reply-in-loop-i.ensures (ap accepted c.in-Ok.is) _ c.slot-j.ensures _ c.copied-u.ensures _ c.counted-report.ensures _ c.note-in-Ok.ensures
 
 pub returns : goal.returns
 returns c = ends _ _ _ _ _ _ _ _ _ c.loop-i.invariant.going c.loop-i-test.false

@@ -1,7 +1,7 @@
+use Rattle.std.specs.Prelude.{Some}
 use Rattle.std.proofs.Common.{◌≡◌, ◌+◌, arith, length, false, ap, sym, ◌∙◌}
 use Rattle.std.proofs.lemmas.Grind.{common_steps}
 use Rattle.tallies.proofs.Tally.{tally-none, tally-next, tally-past, tally_most}
-use Rattle.tasks.specs.Types.{Count}
 use Rattle.tasks.specs.Records.{no_task}
 use Rattle.tasks.specs.Holders.{keeps, beyond_of, holders_of}
 use Rattle.tasks.proofs.Answer.{keeps_le}
@@ -32,4 +32,4 @@ unfolding holders_of
 returns c =
     let past = tally-past (keeps c.args.node.0) c.loop-i.i c.args.ts.now c.loop-i-test.false in
     let few : beyond_of (length c.args.ts.now) c.args.node ≡ false = sym c.beyond.ensures ∙ c.if-beyond.false in
-    rw few (ap Count (c.loop-i.invariant.counted ∙ past))
+    rw few (ap Some (c.loop-i.invariant.counted ∙ past))

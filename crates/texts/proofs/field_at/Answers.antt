@@ -9,8 +9,8 @@ returns-then-s-end c = let a = c.args in field_end a.close a.s.now a.at _ _ (sym
 pub returns-then-s-end-2 : goal.returns-then-s-end-2
 returns-then-s-end-2 c = let a = c.args in field_other a.close a.s.now a.at _ _ (sym c.number_at-read.ensures ∙ c.in-Number.is) c.if-s-end-2.true
 
-pub returns-in-NoNumber : goal.returns-in-NoNumber
-returns-in-NoNumber c = let a = c.args in field_none a.close a.s.now a.at (sym c.number_at-read.ensures ∙ c.in-NoNumber.is)
+pub returns-in-None : goal.returns-in-None
+returns-in-None c = let a = c.args in field_none a.close a.s.now a.at (sym c.number_at-read.ensures ∙ c.in-None.is)
 
 pub returns-else-s-end-2 : goal.returns-else-s-end-2
 returns-else-s-end-2 c = let a = c.args in field_found a.close a.s.now a.at _ _ (sym c.number_at-read.ensures ∙ c.in-Number.is) (omega arith) c.if-s-end-2.false

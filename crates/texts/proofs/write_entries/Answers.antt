@@ -1,24 +1,24 @@
 -- `write_entries`: what is left to write gives the whole.
+use Rattle.std.specs.Prelude.{Ok, Err}
 use Rattle.std.proofs.Common.{◌≡◌, sym, ◌∙◌, arith}
 use Rattle.wire.specs.Bytes.{overlaid}
 use Rattle.wire.proofs.Laws.{has_room}
 use Rattle.entries.specs.Entry.{entry_bytes}
 use Rattle.texts.specs.Text.{bytes_made}
-use Rattle.texts.specs.Types.{ALine, BadLine}
 use Rattle.texts.proofs.Going.{write_room, write_on, write_stops, write_ends}
 use Rattle.texts.proofs.Pieces.{line_tells}
 use Rattle.texts.proofs.Importing.{nothing_made}
 use Rattle.texts.proofs.write_entries.Goals as goal
 
-pub returns-in-BadLine : goal.returns-in-BadLine
-returns-in-BadLine c =
+pub returns-in-Err : goal.returns-in-Err
+returns-in-Err c =
     let l = c.loop-at in
-    let t = line_tells c.args.text.now l.at (BadLine c.in-BadLine.field-0) (omega arith) (sym c.line_at-line.ensures ∙ c.in-BadLine.is) in
-    absurd (write_stops bytes_made c.args.text.now c.args.entries.now l.at l.to l.entries l.invariant c.in-BadLine.field-0 t)
+    let t = line_tells c.args.text.now l.at (Err c.in-Err.field-0) (omega arith) (sym c.line_at-line.ensures ∙ c.in-Err.is) in
+    absurd (write_stops bytes_made c.args.text.now c.args.entries.now l.at l.to l.entries l.invariant c.in-Err.field-0 t)
 
 pub loop-at-smaller : goal.loop-at-smaller
 loop-at-smaller c =
-    let t = line_tells c.args.text.now c.loop-at.at (ALine c.in-ALine.e c.in-ALine.next) (omega arith) (sym c.line_at-line.ensures ∙ c.in-ALine.is) in
+    let t = line_tells c.args.text.now c.loop-at.at (Ok (c.in-ALine.e, c.in-ALine.next)) (omega arith) (sym c.line_at-line.ensures ∙ c.in-ALine.is) in
     omega (arith, t.1, t.2)
 
 pub loop-at-preserved : goal.loop-at-preserved
@@ -26,7 +26,7 @@ loop-at-preserved c =
     let l = c.loop-at in
     let s = c.args.text.now in
     let b = entry_bytes c.in-ALine.e in
-    let t = line_tells s l.at (ALine c.in-ALine.e c.in-ALine.next) (omega arith) (sym c.line_at-line.ensures ∙ c.in-ALine.is) in
+    let t = line_tells s l.at (Ok (c.in-ALine.e, c.in-ALine.next)) (omega arith) (sym c.line_at-line.ensures ∙ c.in-ALine.is) in
     let room = write_room bytes_made s c.args.entries.now l.at l.to l.entries l.invariant c.in-ALine.next b t.0 in
     let put : c.put_entry.new.out ≡ overlaid l.entries l.to b = c.put_entry.ensures ∙ has_room l.entries l.to b room in
     rw put (write_on bytes_made s c.args.entries.now l.at l.to l.entries l.invariant c.in-ALine.next b t.2 t.0)

@@ -4,10 +4,10 @@ use Rattle.entries.proofs.Asking.{asked_done}
 use Rattle.cells.specs.Machine.{seen_in}
 use Rattle.turns.proofs.turn.Goals as goal
 
-pub returns-in-Faulty : goal.returns-in-Faulty
-returns-in-Faulty c =
+pub returns-in-Err : goal.returns-in-Err
+returns-in-Err c =
     let a = c.args in
-    rw (← (asked_done a.n a.p _ a.t (seen_in a.cells.now a.values.now a.counts.now a.t a.p a.k a.free) _ c.asks.ensures _ c.in-Faulty.is)) (c.refused.ensures, refl, refl, refl)
+    rw (← (asked_done a.n a.p _ a.t (seen_in a.cells.now a.values.now a.counts.now a.t a.p a.k a.free) _ c.asks.ensures _ c.in-Err.is)) (c.refused.ensures, refl, refl, refl)
 
 pub returns-in-ToGo : goal.returns-in-ToGo
 returns-in-ToGo c =
