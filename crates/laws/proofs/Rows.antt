@@ -19,6 +19,7 @@ use Rattle.laws.proofs.Phases.{by_phase}
 use Rattle.answers.specs.declared.Refusal.{Refusal}
 use Rattle.steps.specs.declared.Write.{Write}
 use Rattle.answers.specs.declared.Refusal.TheVariants.{Damaged}
+use Rattle.steps.specs.Types.{Counted}
 
 -- a step that counts is refused, or the count and the number of free nodes are as they must be
 abbrev to_number : Seen → NodeNo → ℕ → ℕ → Counted
