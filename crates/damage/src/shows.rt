@@ -1,9 +1,7 @@
 // One case: what an entry does to the record, what a run of two entries does, and the reply buffer.
-ghost use Rattle.std.specs.Prelude.{◌≡◌, length};
-
 use crate::lines::{Hex, kept};
 use cells::{Applied, Machine};
-use runs::Ran;
+use runs::{Ran, Report};
 use std::io;
 
 // What the entry of task 1 asks for, as its kind byte.
@@ -26,15 +24,16 @@ pub(crate) fn entry(rt: &impl Print, m: Machine, a: Applied) -> io::Result<()> {
 
 // A run's six numbers, and whether the record came back as it was.
 fn report(rt: &impl Print, m: Machine, ran: Ran) -> io::Result<()> {
-    let r = ran.report;
+    let Report {
+        accepted,
+        refusal,
+        loads,
+        load_steps,
+        turned_back,
+        swaps,
+    } = ran.report;
     print!(rt;
-        ": run {} {} {} {} {} {} {}",
-        r.accepted,
-        r.refusal,
-        r.loads,
-        r.load_steps,
-        r.turned_back,
-        r.swaps,
+        ": run {accepted} {refusal} {loads} {load_steps} {turned_back} {swaps} {}",
         kept(m == ran.machine)
     )
 }
@@ -52,9 +51,7 @@ fn tried(rt: &impl Print, m: Machine, kind: Kind) -> io::Result<()> {
 }
 
 // The same entry, and then a go of task 1.
-pub(crate) fn two(kind: Kind) -> [u8; 20]
-    ensures { 20 ≡ length result }
-{
+pub(crate) fn two(kind: Kind) -> [u8; 20] {
     let k = kind as u8;
     [
         0x45, 0x4E, 1, k, 0, 0, 0, 0, 0, 0, 0x45, 0x4E, 1, 0, 0, 0, 0, 0, 0, 0,
@@ -72,11 +69,8 @@ pub(crate) fn shows_free(rt: &impl Print, m: Machine, kind: Kind) -> io::Result<
     tried(rt, m, kind)?;
     let mut out = [0xAA; 16];
     let mut free_nodes = [0xAA; 3];
-    report(
-        rt,
-        m,
-        runs::run_free(m, &two(kind), &mut out, &mut free_nodes),
-    )?;
+    let ran = runs::run_free(m, &two(kind), &mut out, &mut free_nodes);
+    report(rt, m, ran)?;
     println!(rt;
         ": replies [{}]: free nodes [{}]",
         Hex(&out),
