@@ -91,32 +91,6 @@ module _ (make : List ℕ → Made) (s : List ℕ) where
         let all : drop at s ≡ [] = drop_of_length-le s h in
         sym (over_none o to) ∙ (rw (all, e) at w.whole)
 
--- what is made, by its length: refused, or too long for the buffer, or laid into it
-pub made_bad : (m : Made) (r : Refusal) (o : List ℕ) → length_of m ≡ Err r → (Err r ≡ answered m (length o)) × (o ≡ laid m o)
-unfolding answered laid
-made_bad (good b) r o h = absurd (written_none (length b) r h)
-  where
-    written_none : (n : ℕ) (r : Refusal) → Ok n ≡ Err r → ⊥
-    written_none n r h = let z : ◌≡◌ {A = ℕ} 0 1 = cc in omega arith
-made_bad (bad q) r o h = (sym h, refl)
-
-pub made_short : (m : Made) (n : ℕ) (o : List ℕ) → length_of m ≡ Ok n → length o < n → (Err OutputShort ≡ answered m (length o)) × (o ≡ laid m o)
-unfolding answered laid
-made_short (good b) n o h l = let e : length b ≡ n = cc in rw (lt-ltb (length o) (length b) (omega arith)) (refl, refl)
-made_short (bad r) n o h l = let z : ◌≡◌ {A = ℕ} 0 1 = cc in absurd (omega arith)
-
-pub made_fits : (m : Made) (n : ℕ) (o : List ℕ) → length_of m ≡ Ok n → n ≤ length o
-    → (is_good m ≡ true) × (length (bytes_of m) ≤ length o) × (Ok n ≡ answered m (length o)) × (overlaid o 0 (bytes_of m) ≡ laid m o)
-unfolding answered laid
-made_fits (good b) n o h l =
-    let e : length b ≡ n = cc in
-    (refl, omega arith, rw (le-ltb (length o) (length b) (omega arith)) (ap Ok (sym e)), rw (le-ltb (length o) (length b) (omega arith)))
-made_fits (bad r) n o h l = let z : ◌≡◌ {A = ℕ} 0 1 = cc in absurd (omega arith)
-
-pub made_long : (o : List ℕ) → (Err TooLong ≡ answered (bad TooLong) (length o)) × (o ≡ laid (bad TooLong) o)
-unfolding answered laid
-made_long o = (refl, refl)
-
 -- what is written has room, and the buffer keeps its length
 pub answered-fits : (m : Made) (room : ℕ) → text_bytes (answered m room) ≤ room
 unfolding answered
@@ -139,15 +113,9 @@ laid-length (good b) o =
 -- what is written stands at the front of the buffer
 pub written-laid : (m : Made) (o : List ℕ) (n : ℕ) → answered m (length o) ≡ Ok n → (b : List ℕ) × (m ≡ good b) × (take n (laid m o) ≡ b)
 unfolding answered laid
-written-laid (bad r) o n h = let z : ◌≡◌ {A = ℕ} 0 1 = cc in absurd (omega arith)
+written-laid (bad r) o n h = absurd cc
 written-laid (good b) o n h =
     elim (dec_le (length b) (length o)) [
-      | yes l ↦ (b, refl, rw (le-ltb (length o) (length b) l) (front (rw (le-ltb (length o) (length b) l) at h)))
-      | no l ↦ absurd (short (rw (lt-ltb (length o) (length b) (omega arith)) at h))
+      | yes l ↦ let e : length b ≡ n = cc (rw (le-ltb (length o) (length b) l) at h) in (b, refl, rw (le-ltb (length o) (length b) l) (take_at b (drop (0 + length b) o) n e))
+      | no l ↦ absurd (cc (rw (lt-ltb (length o) (length b) (omega arith)) at h))
     ]
-  where
-    front : Ok (length b) ≡ Ok n → take n (overlaid o 0 b) ≡ b
-    front h = let e : length b ≡ n = cc in take_at b (drop (0 + length b) o) n e
-
-    short : Err OutputShort ≡ Ok n → ⊥
-    short h = let z : ◌≡◌ {A = ℕ} 0 1 = cc in omega arith

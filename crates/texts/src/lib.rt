@@ -50,6 +50,7 @@ fn newlines(text: &[u8]) -> usize
 }
 
 // A number and the byte that closes it.
+#[tactic(auto, unfolding(crate::specs::Steps::field_at))]
 fn field_at(s: &[u8], at: usize, close: u8) -> Option<(u64, usize)>
     ensures { result ≡ field_at close s.now at }
 {
@@ -91,25 +92,14 @@ fn sized(task: u64, kind: u64, cell: u64, value: u64, next: usize) -> Result<(En
 }
 
 // One line, read once from its front: the form of all of it (30) comes before its sizes (31).
+#[tactic(auto, using(crate::proofs::Scan::no_first, crate::proofs::Scan::no_second, crate::proofs::Scan::no_third, crate::proofs::Scan::no_fourth, crate::proofs::Scan::all_four))]
 fn line_at(s: &[u8], at: usize) -> Result<(Entry, usize), Refusal>
     ensures { result ≡ line_at s.now at }
 {
-    let first = field_at(s, at, b',');
-    let Some((task, kind_at)) = first else {
-        return Err(Refusal::NotALine);
-    };
-    let second = field_at(s, kind_at, b',');
-    let Some((kind, cell_at)) = second else {
-        return Err(Refusal::NotALine);
-    };
-    let third = field_at(s, cell_at, b',');
-    let Some((cell, value_at)) = third else {
-        return Err(Refusal::NotALine);
-    };
-    let fourth = field_at(s, value_at, b'\n');
-    let Some((value, next)) = fourth else {
-        return Err(Refusal::NotALine); // nor is a line without its newline one
-    };
+    let (task, kind_at) = field_at(s, at, b',').ok_or(Refusal::NotALine)?;
+    let (kind, cell_at) = field_at(s, kind_at, b',').ok_or(Refusal::NotALine)?;
+    let (cell, value_at) = field_at(s, cell_at, b',').ok_or(Refusal::NotALine)?;
+    let (value, next) = field_at(s, value_at, b'\n').ok_or(Refusal::NotALine)?; // nor is a line without its newline one
     sized(task, kind, cell, value, next)
 }
 
@@ -156,6 +146,7 @@ fn write_entries(text: &[u8], entries: &mut [u8])
 }
 
 // Text to entry bytes.
+#[tactic(auto, unfolding(crate::specs::Text::imported, crate::specs::Made::answered, crate::specs::Made::laid))]
 pub fn import(text: &[u8], entries: &mut [u8]) -> Result<usize, Refusal>
     ensures { (result ≡ answered (imported text.now) (length entries.old)) × (entries.new ≡ laid (imported text.now) entries.old) }
 {
@@ -256,6 +247,7 @@ fn write_lines(entries: &[u8], text: &mut [u8])
 }
 
 // Entry bytes to text.
+#[tactic(auto, unfolding(crate::specs::Text::exported, crate::specs::Made::answered, crate::specs::Made::laid))]
 pub fn export(entries: &[u8], text: &mut [u8]) -> Result<usize, Refusal>
     ensures { (result ≡ answered (exported entries.now) (length text.old)) × (text.new ≡ laid (exported entries.now) text.old) }
 {
