@@ -82,7 +82,7 @@ pub fn put_word(out: &mut [u8], at: usize, value: u32)
 }
 
 // A reply record.
-#[tactic(auto, using(crate::proofs::Laws::no_room, crate::proofs::Laws::lengths))]
+#[tactic(auto, using(crate::proofs::Laws::no_room, crate::proofs::Laws::two, crate::proofs::Laws::framed))]
 pub fn put_reply(out: &mut [u8], at: usize, number: u8, task: u8, value: u32)
     ensures { out.new ≡ fitted out.old at (reply_of number task value) }
 {
