@@ -4,7 +4,9 @@ use native.Mathlib.Omega.{arith}
 use native.Mathlib.Decide.{ℕ_discrete}
 use mathlib.Core.Path.{◌≡◌, refl, ap}
 use mathlib.Core.Logic.{◌≢◌, ◌⊎◌, inl, inr}
-use mathlib.Core.Bool.{true}
+use mathlib.Core.Bool.{Bool, true, false, cond}
+use Rattle.std.specs.Prelude.{count_by}
+use Rattle.std.proofs.lemmas.List.Recursion.{is_count_by}
 use mathlib.Core.List.{List, [], ◌∷◌, ◌++◌}
 use lib.ListN.{length, get_or, drop, drop_of_length-le}
 use lib.Seq.{drop-cons}
@@ -97,11 +99,11 @@ unfolding newlines
 newlines-append [] w = omega arith
 newlines-append (c ∷ v) w = omega (arith, newlines-append v w)
 
--- those from a place on: one more, or none
-pub newlines-next : (t : List ℕ) (i : ℕ) → i < length t → newlines (drop i t) ≡ bit (eqb (get_or t i 0) newline) + newlines (drop (i + 1) t)
+-- they are a count
+pub newlines_count : (t : List ℕ) → newlines t ≡ count_by (λ c. eqb c newline) t
 unfolding newlines
-newlines-next t i h = let e : i + 1 ≡ suc i = omega arith in rw (drop-cons t i 0 h, e)
-
-pub newlines-none : (t : List ℕ) (i : ℕ) → length t ≤ i → newlines (drop i t) ≡ 0
-unfolding newlines
-newlines-none t i h = rw (drop_of_length-le t h)
+newlines_count = is_count_by newlines (λ c. eqb c newline) refl (λ c t. one (eqb c newline) (newlines t))
+  where
+    one : (b : Bool) (n : ℕ) → bit b + n ≡ cond b (1 + n) n
+    one true n = refl
+    one false n = omega arith
