@@ -4,9 +4,9 @@ use native.Mathlib.Omega.{arith}
 use native.Mathlib.Decide.{ℕ_discrete}
 use mathlib.Core.Path.{◌≡◌, refl, ap}
 use mathlib.Core.Logic.{◌≢◌, ◌⊎◌, inl, inr}
-use mathlib.Core.Bool.{Bool, true, false, cond}
-use Rattle.std.specs.Prelude.{count_by}
-use Rattle.std.proofs.lemmas.List.Recursion.{is_count_by}
+use mathlib.Core.Bool.{true}
+use Rattle.std.specs.List.{sum_by}
+use Rattle.std.proofs.lemmas.List.Recursion.{is_sum_by}
 use mathlib.Core.List.{List, [], ◌∷◌, ◌++◌}
 use lib.ListN.{length, get_or, drop, drop_of_length-le}
 use lib.Seq.{drop-cons}
@@ -99,11 +99,7 @@ unfolding newlines
 newlines-append [] w = omega arith
 newlines-append (c ∷ v) w = omega (arith, newlines-append v w)
 
--- they are a count
-pub newlines_count : (t : List ℕ) → newlines t ≡ count_by (λ c. eqb c newline) t
+-- they are a sum
+pub newlines_sum : (t : List ℕ) → newlines t ≡ sum_by (λ c. bit (eqb c newline)) t
 unfolding newlines
-newlines_count = is_count_by newlines (λ c. eqb c newline) refl (λ c t. one (eqb c newline) (newlines t))
-  where
-    one : (b : Bool) (n : ℕ) → bit b + n ≡ cond b (1 + n) n
-    one true n = refl
-    one false n = omega arith
+newlines_sum = is_sum_by newlines (λ c. bit (eqb c newline)) refl (λ c t. refl)

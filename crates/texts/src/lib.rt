@@ -30,11 +30,12 @@ pub fn text_bytes(a: Result<usize, Refusal>) -> usize
 
 // Import.
 
-#[tactic(auto, using(crate::proofs::Parts::newlines_count))]
+#[tactic(auto, using(crate::proofs::Parts::newlines_sum))]
 fn newlines(text: &[u8]) -> usize
     ensures { result ≡ newlines text.now }
 {
-    text.iter().filter(|b| **b == b'\n').count()
+    // a sum has no branch, so it is quicker than `filter` and `count`
+    text.iter().map(|b| usize::from(*b == b'\n')).sum()
 }
 
 // A number and the byte that closes it.
