@@ -30,23 +30,12 @@ pub fn text_bytes(a: Result<usize, Refusal>) -> usize
 
 // Import.
 
-fn newline_bit(b: u8) -> usize
-    ensures { result ≡ bit (eqb b newline) }
-{
-    if b == b'\n' { 1 } else { 0 }
-}
-
+#[tactic(auto, using(crate::proofs::Parts::newlines_sum))]
 fn newlines(text: &[u8]) -> usize
     ensures { result ≡ newlines text.now }
 {
-    let n = text.len();
-    let mut count: usize = 0;
-    let mut i: usize = 0;
-    while i < n {
-        count += newline_bit(text[i]);
-        i += 1;
-    }
-    count
+    // a sum has no branch, so it is quicker than `filter` and `count`
+    text.iter().map(|b| usize::from(*b == b'\n')).sum()
 }
 
 // A number and the byte that closes it.
@@ -111,15 +100,11 @@ fn check_lines(text: &[u8]) -> Result<usize, Refusal>
     let n = text.len();
     let mut at: usize = 0;
     let mut made: usize = 0;
+    // a `while`: the place moves by what a line uses
     while at < n {
-        let line = line_at(text, at);
-        match line {
-            Err(r) => return Err(r),
-            Ok((_, next)) => {
-                made += 10;
-                at = next;
-            }
-        }
+        let (_, next) = line_at(text, at)?;
+        made += 10;
+        at = next;
     }
     Ok(made)
 }
@@ -133,15 +118,12 @@ fn write_entries(text: &[u8], entries: &mut [u8])
     let mut at: usize = 0;
     let mut to: usize = 0;
     while at < n {
-        let line = line_at(text, at);
-        match line {
-            Err(_) => return,
-            Ok((e, next)) => {
-                entries::put_entry(entries, to, e);
-                to += 10;
-                at = next;
-            }
-        }
+        let Ok((e, next)) = line_at(text, at) else {
+            return;
+        };
+        entries::put_entry(entries, to, e);
+        to += 10;
+        at = next;
     }
 }
 
@@ -190,18 +172,10 @@ fn check_entries(entries: &[u8]) -> Result<usize, Refusal>
     requires { length entries.now ≤ 65530 }
     ensures { result ≡ length_of (text_made entries.now) }
 {
-    let n = entries.len();
-    let mut at: usize = 0;
     let mut made: usize = 0;
-    while at < n {
-        let read = plain_entry(&entries[at..]);
-        match read {
-            Err(r) => return Err(r),
-            Ok(e) => {
-                made += line_length(e);
-                at += 10;
-            }
-        }
+    for piece in entries.chunks(10) {
+        let e = plain_entry(piece)?;
+        made += line_length(e);
     }
     Ok(made)
 }
@@ -231,18 +205,12 @@ fn write_lines(entries: &[u8], text: &mut [u8])
     requires { (is_good (text_made entries.now) ≡ true) × (length (bytes_of (text_made entries.now)) ≤ length text.old) }
     ensures { text.new ≡ overlaid text.old 0 (bytes_of (text_made entries.now)) }
 {
-    let n = entries.len();
-    let mut at: usize = 0;
     let mut to: usize = 0;
-    while at < n {
-        let read = plain_entry(&entries[at..]);
-        match read {
-            Err(_) => return,
-            Ok(e) => {
-                to = put_line(text, to, e);
-                at += 10;
-            }
-        }
+    for piece in entries.chunks(10) {
+        let Ok(e) = plain_entry(piece) else {
+            return;
+        };
+        to = put_line(text, to, e);
     }
 }
 
