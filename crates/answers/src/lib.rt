@@ -90,7 +90,7 @@ pub fn refusal_or_0<T: Copy>(a: Result<T, Refusal>) -> u8
 {
     match a {
         Ok(_) => 0,
-        Err(r) => refusal_number(r),
+        Err(refusal) => refusal_number(refusal),
     }
 }
 
