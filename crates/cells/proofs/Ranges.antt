@@ -31,6 +31,7 @@ use Rattle.cells.specs.Apply.{judged_of, decision_of, carried_by, apply_of}
 use Rattle.cells.proofs.Written.{long-written}
 use Rattle.answers.specs.declared.Refusal.{Refusal}
 use Rattle.answers.specs.declared.Refusal.TheVariants.{Damaged}
+use Rattle.steps.specs.Types.{Counted}
 
 -- the fields of a task's record in range for n cells and k nodes, but for its phase
 pub record Inside (n k : ℕ) (t : Task) : Type 0 where

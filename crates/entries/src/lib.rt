@@ -32,13 +32,12 @@ pub fn read_entry(s: &[u8]) -> Result<Entry, Refusal>
     if !wire::starts_with(s, wire::ENTRY) {
         return Err(Refusal::WrongMark);
     }
-    let y = wire::word_at(s, 6);
     Ok(Entry {
         task: TaskNo(s[2]),
         kind: s[3],
         cell: CellNo(s[4]),
         spare: s[5],
-        value: y,
+        value: wire::word_at(s, 6),
     })
 }
 
@@ -157,19 +156,13 @@ pub fn load(t: Task, x: CellNo) -> Effect
 fn resting(phase: u8) -> bool
     ensures { result ≡ resting phase }
 {
-    if phase == 0 {
-        return true;
-    }
-    phase == 6
+    phase == 0 || phase == 6
 }
 
 fn linked_to(t: Task, x: CellNo) -> bool
     ensures { result ≡ linked_to t x }
 {
-    if t.phase != 6 {
-        return false;
-    }
-    t.cell.0 == x.0
+    t.phase == 6 && t.cell == x
 }
 
 // Without a link on its cell a store is figure 1's false, at once: the task's record is handed back as it is.
@@ -206,9 +199,7 @@ pub fn linked_call(t: Task, c: Call) -> Effect
 pub fn order(n: u8, p: u8, e: Entry, t: Task, s: Seen) -> Effect
     ensures { result ≡ order_of n p e t s }
 {
-    let q = e.task;
-    let x = e.cell;
-    match asks(n, p, q, e.kind, x, e.spare, e.value)? {
+    match asks(n, p, e.task, e.kind, e.cell, e.spare, e.value)? {
         Asked::ToGo => steps::step(t, s),
         Asked::ToLoad(x) => load(t, x),
         Asked::ToStore(x, y) => store(t, x, y),

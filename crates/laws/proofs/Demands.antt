@@ -1,6 +1,6 @@
 -- What is proved, demand by demand of document 00: full statements, each proved in the file that its line cites. Nothing is assumed: a theorem
 -- takes any record and any bytes, or a setup that is accepted, or a record reached from one.
-use Rattle.std.specs.Prelude.{Result, Ok, Err}
+use Rattle.std.specs.Prelude.{Ok, Err}
 use Prim.Native.Nat.{ℕ, suc, ◌+◌, ◌*◌, ◌≤◌, ◌<◌, ◌-◌}
 use mathlib.Core.Path.{◌≡◌, refl}
 use mathlib.Core.Bool.{true, false, Bool}
@@ -34,7 +34,7 @@ use Rattle.laws.specs.Validate.{Validated}
 use Rattle.laws.specs.Schedules.{applied, tried, before, entry, Reached, Scheduled, over}
 use Rattle.laws.specs.Beyond.{Bare, Alike, Alike-after}
 use Rattle.laws.specs.Accepts.{Formed, Fits, StoreAnswered}
-use Rattle.laws.specs.Outcomes.{Asks, Loses, Steps, lost_by}
+use Rattle.laws.specs.Outcomes.{Asks, Loses, Outcome, Steps, lost_by}
 use Rattle.laws.specs.Moves.{Moves}
 use Rattle.laws.proofs.Entries.{outcome, refused_leaves}
 use Rattle.laws.proofs.Rows.{moves}
@@ -67,7 +67,6 @@ use Rattle.laws.proofs.Numbers.{run_starts, run_is, chain_loads, chain_steps, ch
 use Rattle.laws.proofs.Solo.{load_solo, store_sooner, release_solo, validate_solo}
 use Rattle.laws.proofs.Stored.{store_solo}
 use Rattle.laws.proofs.Sharp as Sharp
-use Rattle.runs.specs.declared.Report.{Report}
 
 -- DEMAND 1. Whatever is handed over is answered or refused with a number, and a refusal changes nothing beyond what its answer takes up.
 -- (That each function returns what these definitions give, for every input, is its own contract.)
@@ -140,7 +139,7 @@ pub store_answers : {m : Machine} → Reached m → (e : List ℕ) → Formed m 
 store_answers {m} r e = store-answered m (reached_kept r) e
 
 -- an entry is refused, begins a call, is a store that is lost at once, or makes a step (Entries), and the step is its phase's row of the table (Rows)
-pub entry-does : (m : Machine) (e : List ℕ) → Result Report Refusal m e (apply_of m e)
+pub entry-does : (m : Machine) (e : List ℕ) → Outcome m e (apply_of m e)
 entry-does = outcome
 
 pub step_does : (m : Machine) (e : List ℕ) (d : Deed) → Steps m e d → Moves (task_of m e) (seen_of m (task_of m e)) (task_of m e).phase d

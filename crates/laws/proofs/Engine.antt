@@ -1,6 +1,6 @@
 -- The pool engine as an engine of figure 1: every schedule from an accepted setup has a legal history and leaves the record that matches it,
 -- and the replies that a run writes are those of the entries of such a history. Assumes nothing.
-use Rattle.std.specs.Prelude.{Result, Ok}
+use Rattle.std.specs.Prelude.{Ok}
 use Prim.Native.Nat.{ℕ, ◌*◌, ◌≤◌, ◌<◌}
 use native.Mathlib.Omega.{arith}
 use mathlib.Core.Path.{◌≡◌, refl, ap, ◌∙◌}

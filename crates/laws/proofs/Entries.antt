@@ -25,8 +25,7 @@ use Rattle.cells.specs.Apply.{judged_of, decision_of, carried_by, apply_of}
 use Rattle.runs.specs.Counts.{accepted, kind_of, task_of}
 use Rattle.laws.specs.Types.{Refusal, NoTask, NoKind, NoCell, NotZero, NotNow, WrongMark, TooShort, Damaged, Task, Load, Store, Release, Validate, Deed, Effect, Entry, Machine, Applied}
 use Rattle.laws.specs.Bytes.{go as goes}
-pub use Rattle.laws.specs.Outcomes.{task_no, step_of, Asks, Steps, Damage, by_range, by_step, begun_by, lost_by, stepped_by, Unlinked, idle, elsewhere, Loses, refused, loads, stores, loses, releases, validates, steps}
-use Rattle.runs.specs.declared.Report.{Report}
+pub use Rattle.laws.specs.Outcomes.{task_no, step_of, Asks, Steps, Damage, by_range, by_step, begun_by, lost_by, stepped_by, Unlinked, idle, elsewhere, Loses, Outcome, refused, loads, stores, loses, releases, validates, steps}
 
 -- a task at rest that is not linked to cell x has no link on it
 has_no_link : (t : Task) (x : ℕ) → resting t.phase ≡ true → linked_to t (cell_no x) ≡ false → Unlinked t x
@@ -49,10 +48,10 @@ module _ (m : Machine) (e : List ℕ) where
   entry s = record { task = task_no e; kind = kind; cell = cell_no cell; spare = s; value = word_at e 6 }
 
   abbrev Out : Effect → Type 0
-  Out x = Result Report Refusal m e (carried_of m (task_no e) x)
+  Out x = Outcome m e (carried_of m (task_no e) x)
 
   -- a refusal other than 22
-  other : (i : ℕ) (r : Refusal) → refusal_number r ≢ 22 → Result Report Refusal m e (refused_by m i r)
+  other : (i : ℕ) (r : Refusal) → refusal_number r ≢ 22 → Outcome m e (refused_by m i r)
   other i r ne = refused i r (λ q. absurd (ne (ap refusal_number q)))
 
   no : (r : Refusal) → refusal_number r ≢ 22 → Out (Err r)
@@ -87,7 +86,7 @@ module _ (m : Machine) (e : List ℕ) where
       (λ k. by_test Out (not (eqb t.phase 0)) _ _ (λ w. no NotNow (omega arith))
       (λ w. loads (asks 1 0 k (not-false _ w)) (leb-false m.n cell (rw k at hn))))
       (λ k1. by_test Out (eqb kind 2) _ _
-      (λ k. by_store (Result Report Refusal m e) (λ w. other (get_or e 2 0) NotNow (omega arith))
+      (λ k. by_store (Outcome m e) (λ w. other (get_or e 2 0) NotNow (omega arith))
       (λ u. loses (record { kind = eqb-true kind 2 k; task = hp; cell = leb-false m.n cell (rw (eqb-true kind 2 k) at hn); link = u }))
       (λ f c. stores (record { kind = eqb-true kind 2 k; task = hp; phase = f }) c))
       (λ k2. by_test Out (eqb kind 3) _ _
@@ -103,13 +102,13 @@ module _ (m : Machine) (e : List ℕ) where
       asks k f a b = record { kind = eqb-true kind k a; task = hp; phase = eqb-true t.phase f b }
 
   abbrev Read : Result Entry Refusal → Type 0
-  Read r = Result Report Refusal m e (carried_by m (judged_of m.n m.p (task_in m.tasks) (seen_of m) r))
+  Read r = Outcome m e (carried_by m (judged_of m.n m.p (task_in m.tasks) (seen_of m) r))
 
   -- the refusals in document 01's order
-  pub outcome : Result Report Refusal m e (apply_of m e)
+  pub outcome : Outcome m e (apply_of m e)
   unfolding apply_of decision_of judged_of carried_of order_of entry_of
   outcome =
-      by_test (λ d. Result Report Refusal m e (carried_by m d)) (not (in_range m)) _ _ (λ q. refused 0 Damaged (λ w. by_range (not-true _ q)))
+      by_test (λ d. Outcome m e (carried_by m d)) (not (in_range m)) _ _ (λ q. refused 0 Damaged (λ w. by_range (not-true _ q)))
       (λ q. by_test Read (ltb (length e) 10) _ _ (λ w. other 0 TooShort (omega arith))
       (λ w. by_test Read (not (marked entry_mark e)) _ _ (λ x. other 0 WrongMark (omega arith))
       (λ x. by_test Out (leb m.p (get_or e 2 0)) _ _ (λ a. no NoTask (omega arith))
@@ -129,7 +128,7 @@ pub by_entry : (m : Machine) (e : List ℕ) (R : Applied → Type 0) → ((i : �
     → R (apply_of m e)
 by_entry m e R refusal load store lose release validate step = go (outcome m e)
   where
-    go : {a : Applied} → Result Report Refusal m e a → R a
+    go : {a : Applied} → Outcome m e a → R a
     go (refused i r w) = refusal i r w
     go (loads a h) = load a h
     go (stores a h) = store a h

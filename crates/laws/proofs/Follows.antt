@@ -25,7 +25,7 @@ use Rattle.figure1.specs.Histories.{Status, quiet, asked, acted, State, Event, b
 use Rattle.figure1.proofs.Put.{put_same, put_other, put_in, set-put}
 use Rattle.laws.specs.Types.{Lost, TaskNo, Task, Nothing, Point, Value, Deed, Machine}
 use Rattle.laws.specs.Meaning.{points, claims}
-use Rattle.laws.specs.Kept.{InRange, Kept}
+use Rattle.laws.specs.Kept.{Ready, InRange, Kept}
 use Rattle.laws.specs.Acts.{in_set, linked_at, standing, Matches, acts_from, ending, each, at_once, events_in, events_of}
 use Rattle.laws.proofs.Phases.{phase-gives}
 use Rattle.laws.proofs.Entries.{task_no, Unlinked, idle, elsewhere, by_entry}
@@ -174,7 +174,7 @@ module _ (m : Machine) (K : Kept m) (p : TaskNo) (hp : p.0 < m.p) (a : State) (M
   swap_acts : t ≡ at 8 → t.held.0 ≡ node x → Matches (written m p (at 9) (Point t.cell t.own)) (act a p.0 (asked (store x t.value)))
   swap_acts e q = rw (member_is 8 true refl e (eq-eqb (node x) t.held.0 (sym q))) (record {
     vals = λ y hy. set-put (λ v b. get_or m.values v 0 ≡ b) m.cells x t.own.0 0 a.cells.val t.value (in_cells m K in_t.cell)
-        (let w : Ok m.values (at 8) = rw e at (K.written p.0 hp) in w refl) y (λ n. M.vals y hy);
+        (let w : Ready m.values (at 8) = rw e at (K.written p.0 hp) in w refl) y (λ n. M.vals y hy);
     sets = λ y q hy hq. set-put (λ v g. linked_at v y (get_or (set m.tasks p.0 (at 9)) q no_task) ≡ g q) m.cells x t.own.0 0 a.cells.member nobody
         (in_cells m K in_t.cell) (every-task (λ i d. linked_at t.own.0 y d ≡ false) (at 9) refl q (λ n. gone y q hq))
         y (λ n. every-task (λ i d. linked_at (node y) y d ≡ a.cells.member y i) (at 9) (rw (ne_eqb x y (λ w. n (sym w))) at (link 8 e y hy)) q (λ k. M.sets y q hy hq));

@@ -1,5 +1,4 @@
 -- What a deed must show of itself so that every fact of `Kept` beyond the ranges holds after it, and the deeds that show it alike. Assumes nothing.
-use Rattle.std.specs.Prelude.{Ok}
 use Prim.Native.Nat.{ℕ, ◌+◌, ◌-◌, ◌≤◌, ◌<◌}
 use native.Mathlib.Omega.{arith}
 use native.Mathlib.Decide.{ℕ_discrete}
@@ -18,7 +17,7 @@ use Rattle.steps.specs.Table.{free_after}
 use Rattle.cells.specs.Machine.{cells_after, values_after, counts_after, free_by, written}
 use Rattle.laws.specs.Types.{NodeNo, TaskNo, Task, Write, Nothing, Point, Count, Value, Machine}
 use Rattle.laws.specs.Meaning.{points, claims, pointers, claimers, free_in}
-use Rattle.laws.specs.Kept.{Apart, Sound, Kept}
+use Rattle.laws.specs.Kept.{Apart, Ready, Sound, Kept}
 use Rattle.laws.proofs.Phases.{phase-gives}
 
 -- task q's record
@@ -148,8 +147,8 @@ module _ (m : Machine) (K : Kept m) (p : TaskNo) (hp : p.0 < m.p) (t : Task) (e 
     pub balance : (i : ℕ) → i < m.k → get_or counts i 0 + pointers m i + claims i t + keeps i t ≡ get_or m.counts i 0 + tally (points i) m.n cells + claims i t' + keeps i t'
     pub sole : (i : ℕ) → i < m.k → tally (points i) m.n cells + claimers m i + claims i t' ≤ 1 + claims i t
     pub held : AllApart t'
-    pub ready : Ok values t'
-    pub written : (x : ℕ) → x < m.p → x ≢ p.0 → Ok values (task m x)
+    pub ready : Ready values t'
+    pub written : (x : ℕ) → x < m.p → x ≢ p.0 → Ready values (task m x)
 
   abbrev pub Leaves : Task → Write → Type 0
   Leaves t' w = Local t' (cells_after m w) (values_after m w) (counts_after m w)
@@ -161,7 +160,7 @@ module _ (m : Machine) (K : Kept m) (p : TaskNo) (hp : p.0 < m.p) (t : Task) (e 
     counted = λ i h. omega (arith, K.counted i h, l.balance i h, moved (claims i) t', moved (keeps i) t');
     sole = λ i h. omega (arith, l.sole i h, moved (claims i) t');
     held = l.held;
-    written = λ x hx. put-at (Ok (values_after m w)) m.tasks p.0 t' no_task (in_list m K hp) l.ready x (l.written x hx);
+    written = λ x hx. put-at (Ready (values_after m w)) m.tasks p.0 t' no_task (in_list m K hp) l.ready x (l.written x hx);
   }
 
   -- pointers and values stay, the counts follow the record, and it claims, holds and owns no more

@@ -1,5 +1,5 @@
 -- A step that is made is one of the rows of specs/Moves. Nothing after this looks at a test or at a refused step again. Assumes nothing.
-use Rattle.std.specs.Prelude.{Result, Ok, Err}
+use Rattle.std.specs.Prelude.{Ok, Err}
 use Prim.Native.Nat.{ℕ, ◌+◌, ◌-◌, ◌≤◌, ◌<◌}
 use native.Mathlib.Omega.{arith}
 use native.Mathlib.Decide.{ℕ_discrete, dec_le}
@@ -16,9 +16,8 @@ use Rattle.steps.proofs.Rows.{effect_no_phase}
 use Rattle.laws.specs.Types.{Reply, Moved, Took, Lost, Released, NodeNo, Task, Seen, Count, Deed, Effect}
 pub use Rattle.laws.specs.Moves.{deed, raised, lowered, Moves, l1, l2, l3_passed, l3_turned, l4, l5, s1, s2_swapped, s2_missed, s3_took, s3_shared, s5, s6_took, s6_busy, s7, r1, v1_good, v1_gone}
 use Rattle.laws.proofs.Phases.{by_phase}
-use Rattle.answers.specs.declared.Refusal.{Refusal}
-use Rattle.steps.specs.declared.Write.{Write}
 use Rattle.answers.specs.declared.Refusal.TheVariants.{Damaged}
+use Rattle.steps.specs.Types.{Counted}
 
 -- a step that counts is refused, or the count and the number of free nodes are as they must be
 abbrev to_number : Seen → NodeNo → ℕ → ℕ → Counted

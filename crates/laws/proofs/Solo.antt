@@ -22,7 +22,7 @@ use Rattle.tasks.specs.Phases.{resting, storing}
 use Rattle.steps.specs.Table.{after, effect_of}
 use Rattle.cells.specs.Machine.{seen_of, written, carried_of}
 use Rattle.cells.specs.Apply.{apply_of}
-use Rattle.laws.specs.Types.{Moved, NodeNo, Task, Seen, Deed, Effect, Machine}
+use Rattle.laws.specs.Types.{Answer, Moved, NodeNo, Task, Seen, Deed, Effect, Machine}
 use Rattle.laws.specs.Kept.{Kept}
 use Rattle.laws.specs.Bytes.{go}
 use Rattle.laws.specs.Solo.{Finished, Within}
@@ -107,7 +107,7 @@ module _ (p : ℕ) where
 
   -- what a step leads to, with n steps left after it
   abbrev Ends : ℕ → Machine → Deed → Type 0
-  Ends n m d = Finished (Ok d.reply) ⊎ ((Ok d.reply ≡ Ok Moved) × T (busy d.task.phase) × Enough n (stepped m d) d.task d.task.phase)
+  Ends n m d = Finished (Ok d.reply) ⊎ (◌≡◌ {A = Answer} (Ok d.reply) (Ok Moved) × T (busy d.task.phase) × Enough n (stepped m d) d.task d.task.phase)
 
   module _ (m : Machine) (K : Kept m) (hp : p < m.p) where
     abbrev t : Task

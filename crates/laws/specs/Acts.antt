@@ -1,5 +1,5 @@
 -- A machine record in figure 1's terms: its values and sets, where each task's call stands, and the events of an entry.
-use Rattle.std.specs.Prelude.{ℕ, ◌<◌, ◌≡◌, Bool, true, false, cond, ◌&&◌, ◌||◌, List, [], ◌∷◌, ◌++◌, eqb, get_or, Result, Ok, Err}
+use Rattle.std.specs.Prelude.{ℕ, ◌<◌, ◌≡◌, Bool, true, false, cond, ◌&&◌, ◌||◌, List, [], ◌∷◌, ◌++◌, eqb, get_or, Ok, Err}
 use Rattle.tallies.specs.Lists.{within}
 use Rattle.wire.specs.Bytes.{word_at}
 use Rattle.tasks.specs.Records.{no_task}

@@ -1,12 +1,10 @@
 -- What every step keeps, and so what holds of every record that is reached: the counts' meaning, who may claim a node, how many are
 -- free, and the ranges.
-use Rattle.std.specs.Prelude.{ℕ, ◌+◌, ◌*◌, ◌≤◌, ◌<◌, ◌≡◌, ◌≢◌, List, length, get_or, T, Result, Ok}
+use Rattle.std.specs.Prelude.{ℕ, ◌+◌, ◌*◌, ◌≤◌, ◌<◌, ◌≡◌, ◌≢◌, List, length, get_or, T}
 use Rattle.tasks.specs.Records.{no_task}
 use Rattle.tasks.specs.Phases.{is_phase, live, passed}
 use Rattle.laws.specs.Types.{Task, Machine}
 use Rattle.laws.specs.Meaning.{pointers, claimers, keepers, free}
-use Rattle.answers.specs.declared.Refusal.{Refusal}
-use Rattle.steps.specs.declared.Write.{Write}
 
 -- every node's count is what is due to it
 abbrev pub Counted : Machine → Type 0
@@ -24,11 +22,11 @@ abbrev pub Held : Machine → Type 0
 Held m = (x y : ℕ) → x < m.p → y < m.p → Apart (get_or m.tasks x no_task) (get_or m.tasks y no_task)
 
 -- a task about to swap has written its value
-abbrev pub Ok : List ℕ → Task → Type 0
-Ok vs t = t.phase ≡ 8 → get_or vs t.own.0 0 ≡ t.value
+abbrev pub Ready : List ℕ → Task → Type 0
+Ready vs t = t.phase ≡ 8 → get_or vs t.own.0 0 ≡ t.value
 
 abbrev pub Written : Machine → Type 0
-Written m = (x : ℕ) → x < m.p → Ok m.values (get_or m.tasks x no_task)
+Written m = (x : ℕ) → x < m.p → Ready m.values (get_or m.tasks x no_task)
 
 -- a task's record is in range for n cells and k nodes
 pub record InRange (n k : ℕ) (t : Task) : Type 0 where

@@ -1,5 +1,5 @@
 -- What an entry can do to a record: be refused, begin a call, be a store that is lost at once, or make the step of its task's phase.
-use Rattle.std.specs.Prelude.{ℕ, ◌<◌, ◌≡◌, false, List, ◌≢◌, get_or, Result, Ok, Err}
+use Rattle.std.specs.Prelude.{ℕ, ◌<◌, ◌≡◌, false, List, ◌≢◌, get_or, Ok, Err}
 use Rattle.wire.specs.Bytes.{word_at}
 use Rattle.tasks.specs.Records.{cell_no}
 use Rattle.tasks.specs.Calls.{begun_of}
@@ -7,7 +7,6 @@ use Rattle.steps.specs.Table.{effect_of}
 use Rattle.cells.specs.Machine.{seen_of, written, refused_by, in_range}
 use Rattle.runs.specs.Counts.{kind_of, task_of}
 use Rattle.laws.specs.Types.{Refusal, Damaged, Moved, Lost, TaskNo, Task, Call, Load, Store, Release, Validate, Deed, Effect, Nothing, Machine, Applied}
-use Rattle.runs.specs.declared.Report.{Report}
 
 abbrev pub task_no : List ℕ → TaskNo
 task_no e = record { 0 = get_or e 2 0 }
@@ -56,11 +55,11 @@ abbrev pub stepped_by : Machine → List ℕ → Deed → Applied
 stepped_by m e d = record { machine = written m (task_no e) d.task d.write; answer = Ok d.reply; task = get_or e 2 0 }
 
 -- a refusal leaves the record, and so does a store without a link; a load, a store with one, a release and a validate start a call; a go makes a step
-pub data Result Report Refusal (m : Machine) (e : List ℕ) : Applied → Type 0 where
-  refused : (i : ℕ) (r : Refusal) → (r ≡ Damaged → Damage m e) → Result Report Refusal m e (refused_by m i r)
-  loads : Asks m e 1 0 → get_or e 4 0 < m.n → Result Report Refusal m e (begun_by m e (Load (cell_no (get_or e 4 0))))
-  stores : Asks m e 2 6 → get_or e 4 0 ≡ (task_of m e).cell.0 → Result Report Refusal m e (begun_by m e (Store (word_at e 6)))
-  loses : Loses m e → Result Report Refusal m e (lost_by m e)
-  releases : Asks m e 3 6 → Result Report Refusal m e (begun_by m e Release)
-  validates : Asks m e 4 6 → Result Report Refusal m e (begun_by m e Validate)
-  steps : (d : Deed) → Steps m e d → Result Report Refusal m e (stepped_by m e d)
+pub data Outcome (m : Machine) (e : List ℕ) : Applied → Type 0 where
+  refused : (i : ℕ) (r : Refusal) → (r ≡ Damaged → Damage m e) → Outcome m e (refused_by m i r)
+  loads : Asks m e 1 0 → get_or e 4 0 < m.n → Outcome m e (begun_by m e (Load (cell_no (get_or e 4 0))))
+  stores : Asks m e 2 6 → get_or e 4 0 ≡ (task_of m e).cell.0 → Outcome m e (begun_by m e (Store (word_at e 6)))
+  loses : Loses m e → Outcome m e (lost_by m e)
+  releases : Asks m e 3 6 → Outcome m e (begun_by m e Release)
+  validates : Asks m e 4 6 → Outcome m e (begun_by m e Validate)
+  steps : (d : Deed) → Steps m e d → Outcome m e (stepped_by m e d)

@@ -30,26 +30,16 @@ pub fn text_bytes(a: Result<usize, Refusal>) -> usize
 
 // Import.
 
-fn newline_bit(b: u8) -> usize
-    ensures { result ≡ bit (eqb b newline) }
-{
-    if b == b'\n' { 1 } else { 0 }
-}
-
+#[tactic(auto, using(crate::proofs::Parts::newlines_sum))]
 fn newlines(text: &[u8]) -> usize
     ensures { result ≡ newlines text.now }
 {
-    let n = text.len();
-    let mut count: usize = 0;
-    let mut i: usize = 0;
-    while i < n {
-        count += newline_bit(text[i]);
-        i += 1;
-    }
-    count
+    // a sum has no branch, so it is quicker than `filter` and `count`
+    text.iter().map(|b| usize::from(*b == b'\n')).sum()
 }
 
 // A number and the byte that closes it.
+#[tactic(auto, unfolding(crate::specs::Steps::field_at))]
 fn field_at(s: &[u8], at: usize, close: u8) -> Option<(u64, usize)>
     ensures { result ≡ field_at close s.now at }
 {
@@ -91,25 +81,14 @@ fn sized(task: u64, kind: u64, cell: u64, value: u64, next: usize) -> Result<(En
 }
 
 // One line, read once from its front: the form of all of it (30) comes before its sizes (31).
+#[tactic(auto, using(crate::proofs::Scan::no_first, crate::proofs::Scan::no_second, crate::proofs::Scan::no_third, crate::proofs::Scan::no_fourth, crate::proofs::Scan::all_four))]
 fn line_at(s: &[u8], at: usize) -> Result<(Entry, usize), Refusal>
     ensures { result ≡ line_at s.now at }
 {
-    let first = field_at(s, at, b',');
-    let Some((task, kind_at)) = first else {
-        return Err(Refusal::NotALine);
-    };
-    let second = field_at(s, kind_at, b',');
-    let Some((kind, cell_at)) = second else {
-        return Err(Refusal::NotALine);
-    };
-    let third = field_at(s, cell_at, b',');
-    let Some((cell, value_at)) = third else {
-        return Err(Refusal::NotALine);
-    };
-    let fourth = field_at(s, value_at, b'\n');
-    let Some((value, next)) = fourth else {
-        return Err(Refusal::NotALine); // nor is a line without its newline one
-    };
+    let (task, kind_at) = field_at(s, at, b',').ok_or(Refusal::NotALine)?;
+    let (kind, cell_at) = field_at(s, kind_at, b',').ok_or(Refusal::NotALine)?;
+    let (cell, value_at) = field_at(s, cell_at, b',').ok_or(Refusal::NotALine)?;
+    let (value, next) = field_at(s, value_at, b'\n').ok_or(Refusal::NotALine)?; // nor is a line without its newline one
     sized(task, kind, cell, value, next)
 }
 
@@ -121,15 +100,11 @@ fn check_lines(text: &[u8]) -> Result<usize, Refusal>
     let n = text.len();
     let mut at: usize = 0;
     let mut made: usize = 0;
+    // a `while`: the place moves by what a line uses
     while at < n {
-        let line = line_at(text, at);
-        match line {
-            Err(r) => return Err(r),
-            Ok((_, next)) => {
-                made += 10;
-                at = next;
-            }
-        }
+        let (_, next) = line_at(text, at)?;
+        made += 10;
+        at = next;
     }
     Ok(made)
 }
@@ -143,19 +118,17 @@ fn write_entries(text: &[u8], entries: &mut [u8])
     let mut at: usize = 0;
     let mut to: usize = 0;
     while at < n {
-        let line = line_at(text, at);
-        match line {
-            Err(_) => return,
-            Ok((e, next)) => {
-                entries::put_entry(entries, to, e);
-                to += 10;
-                at = next;
-            }
-        }
+        let Ok((e, next)) = line_at(text, at) else {
+            return;
+        };
+        entries::put_entry(entries, to, e);
+        to += 10;
+        at = next;
     }
 }
 
 // Text to entry bytes.
+#[tactic(auto, unfolding(crate::specs::Text::imported, crate::specs::Made::answered, crate::specs::Made::laid))]
 pub fn import(text: &[u8], entries: &mut [u8]) -> Result<usize, Refusal>
     ensures { (result ≡ answered (imported text.now) (length entries.old)) × (entries.new ≡ laid (imported text.now) entries.old) }
 {
@@ -199,18 +172,10 @@ fn check_entries(entries: &[u8]) -> Result<usize, Refusal>
     requires { length entries.now ≤ 65530 }
     ensures { result ≡ length_of (text_made entries.now) }
 {
-    let n = entries.len();
-    let mut at: usize = 0;
     let mut made: usize = 0;
-    while at < n {
-        let read = plain_entry(&entries[at..]);
-        match read {
-            Err(r) => return Err(r),
-            Ok(e) => {
-                made += line_length(e);
-                at += 10;
-            }
-        }
+    for piece in entries.chunks(10) {
+        let e = plain_entry(piece)?;
+        made += line_length(e);
     }
     Ok(made)
 }
@@ -240,22 +205,17 @@ fn write_lines(entries: &[u8], text: &mut [u8])
     requires { (is_good (text_made entries.now) ≡ true) × (length (bytes_of (text_made entries.now)) ≤ length text.old) }
     ensures { text.new ≡ overlaid text.old 0 (bytes_of (text_made entries.now)) }
 {
-    let n = entries.len();
-    let mut at: usize = 0;
     let mut to: usize = 0;
-    while at < n {
-        let read = plain_entry(&entries[at..]);
-        match read {
-            Err(_) => return,
-            Ok(e) => {
-                to = put_line(text, to, e);
-                at += 10;
-            }
-        }
+    for piece in entries.chunks(10) {
+        let Ok(e) = plain_entry(piece) else {
+            return;
+        };
+        to = put_line(text, to, e);
     }
 }
 
 // Entry bytes to text.
+#[tactic(auto, unfolding(crate::specs::Text::exported, crate::specs::Made::answered, crate::specs::Made::laid))]
 pub fn export(entries: &[u8], text: &mut [u8]) -> Result<usize, Refusal>
     ensures { (result ≡ answered (exported entries.now) (length text.old)) × (text.new ≡ laid (exported entries.now) text.old) }
 {

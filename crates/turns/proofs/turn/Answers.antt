@@ -1,5 +1,5 @@
 -- `turn`: what is asked, done.
-use Rattle.std.proofs.Common.{◌∙◌, refl}
+use Rattle.std.proofs.Common.{◌∙◌, refl, ap, Ok}
 use Rattle.entries.proofs.Asking.{asked_done}
 use Rattle.cells.specs.Machine.{seen_in}
 use Rattle.turns.proofs.turn.Goals as goal
@@ -9,27 +9,27 @@ returns-in-Err c =
     let a = c.args in
     rw (← (asked_done a.n a.p _ a.t (seen_in a.cells.now a.values.now a.counts.now a.t a.p a.k a.free) _ c.asks.ensures _ c.in-Err.is)) (c.refused.ensures, refl, refl, refl)
 
-pub returns-in-ToGo : goal.returns-in-ToGo
-returns-in-ToGo c =
+pub returns-in-Ok-ToGo : goal.returns-in-Ok-ToGo
+returns-in-Ok-ToGo c =
     let a = c.args in
-    rw (← (asked_done a.n a.p _ a.t (seen_in a.cells.now a.values.now a.counts.now a.t a.p a.k a.free) _ c.asks.ensures _ c.in-ToGo.is)) c.go.ensures
+    rw (← (asked_done a.n a.p _ a.t (seen_in a.cells.now a.values.now a.counts.now a.t a.p a.k a.free) _ c.asks.ensures _ (c.in-Ok-ToGo.is ∙ ap Ok c.in-Ok-ToGo.field-0-is))) c.go.ensures
 
-pub returns-in-ToLoad : goal.returns-in-ToLoad
-returns-in-ToLoad c =
+pub returns-in-Ok-ToLoad : goal.returns-in-Ok-ToLoad
+returns-in-Ok-ToLoad c =
     let a = c.args in
-    rw (← (c.load.ensures ∙ asked_done a.n a.p _ a.t (seen_in a.cells.now a.values.now a.counts.now a.t a.p a.k a.free) _ c.asks.ensures _ c.in-ToLoad.is)) c.carry.ensures
+    rw (← (c.load.ensures ∙ asked_done a.n a.p _ a.t (seen_in a.cells.now a.values.now a.counts.now a.t a.p a.k a.free) _ c.asks.ensures _ (c.in-Ok-ToLoad.is ∙ ap Ok c.in-Ok-ToLoad.field-0-is))) c.carry.ensures
 
-pub returns-in-ToStore : goal.returns-in-ToStore
-returns-in-ToStore c =
+pub returns-in-Ok-ToStore : goal.returns-in-Ok-ToStore
+returns-in-Ok-ToStore c =
     let a = c.args in
-    rw (← (c.store.ensures ∙ asked_done a.n a.p _ a.t (seen_in a.cells.now a.values.now a.counts.now a.t a.p a.k a.free) _ c.asks.ensures _ c.in-ToStore.is)) c.carry-in-ToStore.ensures
+    rw (← (c.store.ensures ∙ asked_done a.n a.p _ a.t (seen_in a.cells.now a.values.now a.counts.now a.t a.p a.k a.free) _ c.asks.ensures _ (c.in-Ok-ToStore.is ∙ ap Ok c.in-Ok-ToStore.field-0-is))) c.carry-in-Ok-ToStore.ensures
 
-pub returns-in-ToRelease : goal.returns-in-ToRelease
-returns-in-ToRelease c =
+pub returns-in-Ok-ToRelease : goal.returns-in-Ok-ToRelease
+returns-in-Ok-ToRelease c =
     let a = c.args in
-    rw (← (c.linked_call.ensures ∙ asked_done a.n a.p _ a.t (seen_in a.cells.now a.values.now a.counts.now a.t a.p a.k a.free) _ c.asks.ensures _ c.in-ToRelease.is)) c.carry-in-ToRelease.ensures
+    rw (← (c.linked_call.ensures ∙ asked_done a.n a.p _ a.t (seen_in a.cells.now a.values.now a.counts.now a.t a.p a.k a.free) _ c.asks.ensures _ (c.in-Ok-ToRelease.is ∙ ap Ok c.in-Ok-ToRelease.field-0-is))) c.carry-in-Ok-ToRelease.ensures
 
-pub returns-in-ToValidate : goal.returns-in-ToValidate
-returns-in-ToValidate c =
+pub returns-in-Ok-ToValidate : goal.returns-in-Ok-ToValidate
+returns-in-Ok-ToValidate c =
     let a = c.args in
-    rw (← (c.linked_call-in-ToValidate.ensures ∙ asked_done a.n a.p _ a.t (seen_in a.cells.now a.values.now a.counts.now a.t a.p a.k a.free) _ c.asks.ensures _ c.in-ToValidate.is)) c.carry-in-ToValidate.ensures
+    rw (← (c.linked_call-in-Ok-ToValidate.ensures ∙ asked_done a.n a.p _ a.t (seen_in a.cells.now a.values.now a.counts.now a.t a.p a.k a.free) _ c.asks.ensures _ (c.in-Ok-ToValidate.is ∙ ap Ok c.in-Ok-ToValidate.field-0-is))) c.carry-in-Ok-ToValidate.ensures
