@@ -13,8 +13,9 @@ use lib.Dec.{eqb}
 use borrow.Author.Tests.{lt-ltb}
 use Rattle.tallies.proofs.Lists.{part}
 use Rattle.wire.specs.Bytes.{overlaid}
-use Rattle.wire.proofs.Laws.{over-length, over_four}
+use Rattle.wire.proofs.Laws.{over-length, over-set, over_four}
 use Rattle.digits.specs.Decimal.{decimal}
+use Rattle.digits.proofs.Laws.{word-length}
 use Rattle.entries.specs.Entry.{entry_of, entry_bytes}
 use Rattle.entries.proofs.Laws.{entry_front}
 use Rattle.texts.specs.Types.{NotALine, TooLarge, NotZero, TooShort, Entry}
@@ -116,6 +117,10 @@ line-length e =
       length-append (t ++ comma ∷ k) (comma ∷ c),
       length-append t (comma ∷ k),
     )
+
+pub ruleset lengths = (word-length, line-length)
+
+pub ruleset laid_over = (over-length, over-set)
 
 -- a field that is laid over a buffer leaves its length
 pub field_long : (o p : List ℕ) (at n close : ℕ) → at + length (decimal n) + 1 ≤ length o → p ≡ overlaid o at (decimal n ++ close ∷ []) → length p ≡ length o

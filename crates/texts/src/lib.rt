@@ -58,16 +58,7 @@ fn field_at(s: &[u8], at: usize, close: u8) -> Option<(u64, usize)>
 fn sized(task: u64, kind: u64, cell: u64, value: u64, next: usize) -> Result<(Entry, usize), Refusal>
     ensures { result ≡ sized task kind cell value next }
 {
-    if 255 < task {
-        return Err(Refusal::TooLarge);
-    }
-    if 255 < kind {
-        return Err(Refusal::TooLarge);
-    }
-    if 255 < cell {
-        return Err(Refusal::TooLarge);
-    }
-    if 4294967295 < value {
+    if 255 < task || 255 < kind || 255 < cell || 4294967295 < value {
         return Err(Refusal::TooLarge);
     }
     let e = Entry {
@@ -157,6 +148,7 @@ fn plain_entry(s: &[u8]) -> Result<Entry, Refusal>
 }
 
 // Four numbers of at most ten digits, three commas and a newline.
+#[tactic(auto, using(crate::proofs::Pieces::lengths))]
 fn line_length(e: Entry) -> usize
     ensures { (result ≡ length (line_of e)) × (result ≤ 44) }
 {
@@ -181,6 +173,7 @@ fn check_entries(entries: &[u8]) -> Result<usize, Refusal>
 }
 
 // A number and the byte that closes it; answers where they end.
+#[tactic(auto, using(wire::proofs::Laws::has_room, digits::proofs::Writing::end_fits, crate::proofs::Pieces::laid_over))]
 fn put_field(text: &mut [u8], at: usize, n: u32, close: u8) -> usize
     requires { at + length (decimal n) + 1 ≤ length text.old }
     ensures { (result ≡ at + length (decimal n) + 1) × (text.new ≡ overlaid text.old at (decimal n ++ close ∷ [])) }
@@ -190,6 +183,7 @@ fn put_field(text: &mut [u8], at: usize, n: u32, close: u8) -> usize
     end + 1
 }
 
+#[tactic(auto, using(crate::proofs::Pieces::fields_line, crate::proofs::Pieces::lengths))]
 fn put_line(text: &mut [u8], at: usize, e: Entry) -> usize
     requires { at + length (line_of e) ≤ length text.old }
     ensures { (result ≡ at + length (line_of e)) × (text.new ≡ overlaid text.old at (line_of e)) }
