@@ -15,13 +15,11 @@ use borrow.Author.Tests.{lt-leb, leb-true, lt-ltb, ltb-true, ltb-false, eq-eqb, 
 use Rattle.tallies.proofs.Lists.{both, either}
 use Rattle.digits.specs.Decimal.{is_digit, all_digits, is_number, value_of, lead, capped, number_at}
 use Rattle.digits.proofs.Laws.{number_digits}
-use Rattle.texts.specs.Types.{NotALine, TooLarge}
+use Rattle.texts.specs.Types.{Entry, Refusal, NotALine, TooLarge}
 use Rattle.texts.specs.Line.{comma, newline, bare, small, entry_with, Line, up_to, past, is_line, fits}
 use Rattle.texts.specs.Steps.{closed_by, field_at, sized, is_closed, line_in, line_at}
 use Rattle.texts.proofs.Parts.{up_to_lem, up_to-none, parted}
 use Rattle.texts.proofs.Lines.{bare_text, bare_of, bare-line, bare-free, line-task, line-kind, line-cell, line-value, is_line_lem}
-use Rattle.entries.specs.declared.Entry.{Entry}
-use Rattle.answers.specs.declared.Refusal.{Refusal}
 
 -- the digits that a text starts with, up to a byte that is none
 lead_of : (y : List ℕ) (c : ℕ) (u : List ℕ) → all_digits y ≡ true → is_digit c ≡ false → lead (y ++ c ∷ u) ≡ y

@@ -76,7 +76,7 @@ fn sized(
 }
 
 // One line, read once from its front: the form of all of it (30) comes before its sizes (31).
-#[tactic(auto, using(crate::proofs::Scan::no_first, crate::proofs::Scan::no_second, crate::proofs::Scan::no_third, crate::proofs::Scan::no_fourth, crate::proofs::Scan::all_four))]
+#[tactic(auto, using(crate::proofs::Scan::no_first, crate::proofs::Scan::no_second, crate::proofs::Scan::no_third, crate::proofs::Scan::all_four))]
 fn line_at(s: &[u8], at: usize) -> Result<(Entry, usize), Refusal>
     ensures { result ≡ line_at s.now at }
 {
