@@ -97,7 +97,7 @@ fn answer(input: &[u8], text: &mut Text) {
     let s = Machine::setup(input);
     match s.answer {
         Err(r) => {
-            text.field(b"setup ", answers::refusal_number(r) as u32);
+            text.field(b"setup ", u8::from(r) as u32);
             text.put(b"\n");
         }
         Ok(used) => bench(s.machine, &input[used..], text),
