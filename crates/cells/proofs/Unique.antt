@@ -1,10 +1,10 @@
 -- Any two results that a public function's contract allows are equal, and so is what a lent place holds when the function returns. Assumes nothing.
 use mathlib.Core.Path.{refl, sym, ◌∙◌}
 use Rattle.contracts.specs.One.{One}
-use Rattle.cells.proofs.seen.Kinds as seen·k
-use Rattle.cells.proofs.seen.Reads as seen
-use Rattle.cells.proofs.tables_ok.Kinds as tables-ok·k
-use Rattle.cells.proofs.tables_ok.Reads as tables-ok
+use Rattle.cells.proofs.Machine.seen.Kinds as seen·k
+use Rattle.cells.proofs.Machine.seen.Reads as seen
+use Rattle.cells.proofs.Machine.tables_ok.Kinds as tables-ok·k
+use Rattle.cells.proofs.Machine.tables_ok.Reads as tables-ok
 use Rattle.cells.proofs.write_cells.Kinds as write-cells·k
 use Rattle.cells.proofs.write_cells.Reads as write-cells
 use Rattle.cells.proofs.write_values.Kinds as write-values·k
@@ -19,6 +19,14 @@ use Rattle.cells.proofs.free.free_number.Kinds as free-number·k
 use Rattle.cells.proofs.free.free_number.Reads as free-number
 use Rattle.cells.proofs.free.free_value.Kinds as free-value·k
 use Rattle.cells.proofs.free.free_value.Reads as free-value
+use Rattle.cells.proofs.Machine.task.Kinds as task·k
+use Rattle.cells.proofs.Machine.task.Reads as task
+use Rattle.cells.proofs.Machine.sound.Kinds as sound·k
+use Rattle.cells.proofs.Machine.sound.Reads as sound
+use Rattle.cells.proofs.Machine.carry.Kinds as carry·k
+use Rattle.cells.proofs.Machine.carry.Reads as carry
+use Rattle.cells.proofs.start.blank.Kinds as blank·k
+use Rattle.cells.proofs.start.blank.Reads as blank
 use Rattle.cells.proofs.Machine.task_at.Kinds as task-at·k
 use Rattle.cells.proofs.Machine.task_at.Reads as task-at
 use Rattle.cells.proofs.Machine.in_range.Kinds as in-range·k
@@ -68,6 +76,16 @@ free_value_one κs a z z' ws ws' p q q' = (q ∙ sym q', refl)
 pub task_at_one : One task-at·k.ps task-at·k.r task-at.Pre task-at.Post
 task_at_one κs a z z' ws ws' p q q' = (q ∙ sym q', refl)
 
+pub task_one : One task·k.ps task·k.r task.Pre task.Post
+task_one κs a z z' ws ws' p q q' = (q ∙ sym q', refl)
+
+pub sound_one : One sound·k.ps sound·k.r sound.Pre sound.Post
+sound_one κs a z z' ws ws' p q q' = (q ∙ sym q', refl)
+
+-- the answer, and every place of the machine
+pub carry_one : One carry·k.ps carry·k.r carry.Pre carry.Post
+carry_one κs a z z' ws ws' p q q' = (q.1 ∙ sym q'.1, λ i. ((q.0 ∙ sym q'.0) i, ws.1))
+
 pub in_range_one : One in-range·k.ps in-range·k.r in_range_lem.Pre in_range_lem.Post
 in_range_one κs a z z' ws ws' p q q' = (q ∙ sym q', refl)
 
@@ -83,8 +101,11 @@ setup_one κs a z z' ws ws' p q q' = (q ∙ sym q', refl)
 pub read_head_one : One read-head·k.ps read-head·k.r read_head.Pre read_head.Post
 read_head_one κs a z z' ws ws' p q q' = (q ∙ sym q', refl)
 
+pub blank_one : One blank·k.ps blank·k.r blank.Pre blank.Post
+blank_one κs a z z' ws ws' p q q' = (q ∙ sym q', refl)
+
 pub fill_one : One fill·k.ps fill·k.r fill.Pre fill.Post
-fill_one κs a z z' ws ws' p q q' = (q.0 ∙ sym q'.0, λ i. (ws.0, ((q.1 ∙ sym q'.1) i, ((q.2 ∙ sym q'.2) i, ((q.3 ∙ sym q'.3) i, ws.1.1.1.1)))))
+fill_one κs a z z' ws ws' p q q' = (q.1 ∙ sym q'.1, λ i. ((q.0 ∙ sym q'.0) i, ws.1))
 
 pub setup_number_one : One setup-number·k.ps setup-number·k.r setup-number.Pre setup-number.Post
 setup_number_one κs a z z' ws ws' p q q' = (q ∙ sym q', refl)

@@ -1,17 +1,13 @@
 -- A task's record, the one place and the number of free nodes, written where they lie, give the machine after the step. Assumes nothing.
-use Rattle.std.specs.Prelude.{Ok, Err}
+use Rattle.std.specs.Prelude.{Ok}
 use Prim.Native.Nat.{ℕ}
-use mathlib.Core.Path.{◌≡◌, refl, ap, ◌∙◌}
+use mathlib.Core.Path.{◌≡◌, refl, ◌∙◌}
 use mathlib.Core.List.{List}
-use lib.ListN.{length, get_or, set, length-set}
-use lib.Seq.{set-get_or}
-use Rattle.answers.specs.Types.{Answer}
-use Rattle.tasks.specs.Records.{no_task}
-use Rattle.steps.specs.Table.{answer_of}
+use lib.ListN.{length, set, length-set}
 use Rattle.tables.specs.Tables.{put_in}
 use Rattle.tables.proofs.Laws.{put-set}
-use Rattle.cells.specs.Types.{Machine, TaskNo, Task, Write, Nothing, Point, Count, Value, Deed, Effect}
-use Rattle.cells.specs.Machine.{cells_by, values_by, counts_by, free_by, task_by, write_by, cells_after, values_after, counts_after, written, carried_of, Long}
+use Rattle.cells.specs.Types.{Machine, TaskNo, Task, Write, Nothing, Point, Count, Value, Deed}
+use Rattle.cells.specs.Machine.{cells_by, values_by, counts_by, free_by, cells_after, values_after, counts_after, written, left_by, Long}
 
 cells-put : (m : Machine) (w : Write) → length m.cells ≡ 64 → cells_by (put_in 64) w m.cells ≡ cells_after m w
 cells-put m Nothing h = refl
@@ -31,20 +27,11 @@ counts-put m (Point x v) h = refl
 counts-put m (Count v c f) h = put-set 128 m.counts v.0 c h
 counts-put m (Value v y) h = refl
 
-pub put_written : (m : Machine) → Long m → (w : Write) (u : Task) (j i : ℕ) → j ≡ i → (cs vs ns : List ℕ) (f : ℕ) → cs ≡ cells_by (put_in 64) w m.cells → vs ≡ values_by (put_in 128) w m.values → ns ≡ counts_by (put_in 128) w m.counts → f ≡ free_by w m.free
-    → record { n = m.n; p = m.p; k = m.k; free = f; cells = cs; values = vs; counts = ns; tasks = set m.tasks j u } ≡ written m (record { 0 = i }) u w
-put_written m long w u j i e cs vs ns f hc hv hn hf =
-    rw (hc ∙ cells-put m w long.cells, hv ∙ values-put m w long.values, hn ∙ counts-put m w long.counts, hf, e)
-
--- the same of any effect: a refusal puts the task's record back where it stood, and so leaves all as it was
-pub put_carried : (m : Machine) → Long m → (e : Effect) (j i : ℕ) → ((y : Deed) → e ≡ Ok y → j ≡ i) → (t : Task) → t ≡ get_or m.tasks j no_task
-    → (u : Task) → u ≡ task_by e t → (a : Answer) → a ≡ answer_of e
-    → (cs vs ns : List ℕ) (f : ℕ) → cs ≡ cells_by (put_in 64) (write_by e) m.cells → vs ≡ values_by (put_in 128) (write_by e) m.values → ns ≡ counts_by (put_in 128) (write_by e) m.counts → f ≡ free_by (write_by e) m.free
-    → record { machine = record { n = m.n; p = m.p; k = m.k; free = f; cells = cs; values = vs; counts = ns; tasks = set m.tasks j u }; answer = a; task = i } ≡ carried_of m (record { 0 = i }) e
-unfolding carried_of
-put_carried m long (Err r) j i own t is u hu a ha cs vs ns f hc hv hn hf = rw (hc, hv, hn, hf, ha, hu, is, set-get_or m.tasks j no_task)
-put_carried m long (Ok d) j i own t is u hu a ha cs vs ns f hc hv hn hf =
-    rw (hu, ha) (ap (λ (z : Machine). record { machine = z; answer = Ok d.reply; task = i }) (put_written m long d.write d.task j i (own d refl) cs vs ns f hc hv hn hf))
+-- an effect that does something leaves this of the machine
+pub put_written : (m : Machine) → Long m → (p : TaskNo) (d : Deed) (cs vs ns : List ℕ) (ts : List Task) (f : ℕ) → cs ≡ cells_by (put_in 64) d.write m.cells → vs ≡ values_by (put_in 128) d.write m.values → ns ≡ counts_by (put_in 128) d.write m.counts → f ≡ free_by d.write m.free → ts ≡ set m.tasks p.0 d.task
+    → record { n = m.n; p = m.p; k = m.k; free = f; cells = cs; values = vs; counts = ns; tasks = ts } ≡ left_by m p (Ok d)
+put_written m long p d cs vs ns ts f hc hv hn hf ht =
+    rw (hc ∙ cells-put m d.write long.cells, hv ∙ values-put m d.write long.values, hn ∙ counts-put m d.write long.counts, hf, ht)
 
 -- no write changes a table's length
 cells-after : (m : Machine) (w : Write) → length (cells_after m w) ≡ length m.cells

@@ -1,10 +1,10 @@
 -- One schedule entry: it is decided, and then carried out.
-use Rattle.std.specs.Prelude.{ℕ, Bool, cond, not, ◌&&◌, List, Result, Ok, Err}
+use Rattle.std.specs.Prelude.{ℕ, Bool, cond, not, List, Result, Ok, Err}
 use Rattle.tables.specs.Tables.{task_in}
 use Rattle.entries.specs.Entry.{entry_of}
 use Rattle.entries.specs.Order.{order_of}
 use Rattle.cells.specs.Types.{Machine, Applied, Decision, TaskNo, Task, Seen, Damaged}
-use Rattle.cells.specs.Machine.{seen_in, seen_of, carried_of, tables_ok, in_range}
+use Rattle.cells.specs.Machine.{seen_of, carried_of, in_range}
 use Rattle.entries.specs.declared.Entry.{Entry}
 use Rattle.answers.specs.declared.Refusal.{Refusal}
 
@@ -18,12 +18,7 @@ judged_of n p at sees (Ok e) = let t = at e.task in record { task = e.task.0; ef
 abbrev pub guarded : Bool → Decision → Decision
 guarded ok d = cond (not ok) (record { task = 0; effect = Err Damaged }) d
 
--- over lent tables: t is the record of the entry's task, and `inside` says whether the task records are in range
-unfoldable pub decided_of : ℕ → ℕ → ℕ → ℕ → List ℕ → List ℕ → List ℕ → Task → Bool → List ℕ → Decision
-decided_of n p k free cells values counts t inside s =
-    guarded (tables_ok n p k free cells counts && inside) (judged_of n p (λ q. t) (λ u. seen_in cells values counts u p k free) (entry_of s))
-
--- over a machine's own tables and records
+-- of a machine
 unfoldable pub decision_of : Machine → List ℕ → Decision
 decision_of m s = guarded (in_range m) (judged_of m.n m.p (task_in m.tasks) (seen_of m) (entry_of s))
 

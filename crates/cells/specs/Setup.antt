@@ -5,7 +5,7 @@ use Rattle.wire.specs.Bytes.{setup_mark, marked}
 use Rattle.answers.specs.Numbers.{refusal_or_0}
 use Rattle.tasks.specs.Records.{node_no, no_task, idle_owning}
 use Rattle.tables.specs.Tables.{sizes_ok, value_given}
-use Rattle.cells.specs.Types.{Machine, SetUp, Head, Laid, Refusal, Sizes, NotZero, WrongMark, TooShort}
+use Rattle.cells.specs.Types.{Machine, SetUp, Head, Refusal, Sizes, NotZero, WrongMark, TooShort}
 
 -- all zero
 abbrev pub blank_of : Machine
@@ -51,18 +51,6 @@ setup_of s =
 -- a setup without its machine: the sizes and the answer
 abbrev pub head_of : SetUp → Head
 head_of x = record { n = x.machine.n; p = x.machine.p; k = x.machine.k; answer = x.answer }
-
--- and without the three tables of its machine
-abbrev pub laid_of : SetUp → Laid
-laid_of x =
-    record {
-      n = x.machine.n;
-      p = x.machine.p;
-      k = x.machine.k;
-      free = x.machine.free;
-      tasks = x.machine.tasks;
-      answer = x.answer;
-    }
 
 -- document 01's number of a setup's answer; an accepted one has none, here 0
 abbrev pub setup_number : Result ℕ Refusal → ℕ

@@ -14,4 +14,3 @@ pub use Rattle.cells.specs.declared.Applied.{Applied}
 pub use Rattle.cells.specs.declared.Decision.{Decision}
 pub use Rattle.cells.specs.declared.SetUp.{SetUp}
 pub use Rattle.cells.specs.declared.start.Head.{Head}
-pub use Rattle.cells.specs.declared.start.Laid.{Laid}

@@ -8,8 +8,8 @@ ghost use Rattle.std.specs.Prelude.{◌≡◌};
 ghost use Rattle.tasks.specs.Holders.{held_among};
 ghost use Rattle.steps.specs.Table.{answer_of};
 ghost use Rattle.tables.specs.Tables.{task_in, put_in};
-ghost use Rattle.cells.specs.Machine.{seen_in, cells_by, values_by, counts_by, free_by, task_by, write_by, tables_ok, in_range};
-ghost use Rattle.cells.specs.Apply.{decided_of, apply_of};
+ghost use Rattle.cells.specs.Machine.{seen_of, cells_by, values_by, counts_by, free_by, left_by, tables_ok, in_range};
+ghost use Rattle.cells.specs.Apply.{decision_of, apply_of};
 ghost use Rattle.cells.specs.Setup.{setup_of, setup_number, setup_bytes};
 
 use answers::{Answer, Refusal};
@@ -46,29 +46,13 @@ pub struct SetUp {
 }
 
 impl Machine {
-    // The machine of a setup record's bytes. A refused one hands back a record of all zeros. The record is put together once, at the one way out: another would be another copy of it.
+    // The machine of a setup record's bytes. A refused one hands back a record of all zeros.
     pub fn setup(s: &[u8]) -> SetUp
         ensures { result ≡ setup_of s.now }
     {
-        let mut cells: [u8; 64] = [0; 64];
-        let mut values: [u32; 128] = [0; 128];
-        let mut counts: [u8; 128] = [0; 128];
-        let l = start::fill(s, &mut cells, &mut values, &mut counts);
-        let ts = l.tasks;
-        let a = l.answer;
-        SetUp {
-            machine: Machine {
-                n: l.n,
-                p: l.p,
-                k: l.k,
-                free: l.free,
-                cells: cells,
-                values: values,
-                counts: counts,
-                tasks: ts,
-            },
-            answer: a,
-        }
+        let mut machine = start::blank();
+        let answer = start::fill(&mut machine, s);
+        SetUp { machine, answer }
     }
 }
 
@@ -91,123 +75,29 @@ pub struct Decision {
     pub effect: Effect,
 }
 
-// What a step of the task record t may look at, in a machine of p tasks and k nodes, of which so many are free.
-pub fn seen<'a>(
-    cells: &'a [u8],
-    values: &'a [u32],
-    counts: &'a [u8],
-    t: Task,
-    p: u8,
-    k: u8,
-    free: u8,
-) -> Seen
-    ensures { result ≡ seen_in cells.now values.now counts.now t p k free }
-{
-    let here = node_at(cells, t.cell);
-    let held = count_at(counts, t.held);
-    let next = count_at(counts, t.cursor);
-    let value = value_at(values, t.held);
-    Seen {
-        here: here,
-        held_count: held,
-        cursor_count: next,
-        held_value: value,
-        tasks: p,
-        nodes: k,
-        free: free,
-    }
-}
-
-// The range test (22) of all but the task records.
-pub fn tables_ok<'a>(n: u8, p: u8, k: u8, free: u8, cells: &'a [u8], counts: &'a [u8]) -> bool
-    ensures { result ≡ tables_ok n p k free cells.now counts.now }
-{
-    if !free::pool_ok(n, p, k, free) {
-        return false;
-    }
-    if !tables::cells_ok(cells, n, k) {
-        return false;
-    }
-    tables::counts_ok(counts, k, p)
-}
-
-// One schedule entry over lent tables; nothing is written. t is the record of its task, and `inside` says whether the task records are in range.
-#[tactic(auto, unfolding(crate::specs::Apply::judged_of, crate::specs::Apply::decided_of))]
-fn decided<'a>(
-    n: u8,
-    p: u8,
-    k: u8,
-    free: u8,
-    cells: &'a [u8],
-    values: &'a [u32],
-    counts: &'a [u8],
-    t: Task,
-    inside: bool,
-    s: &'a [u8],
-) -> Decision
-    ensures { result ≡ decided_of n p k free cells.now values.now counts.now t inside s.now }
-{
-    if !tables_ok(n, p, k, free, cells, counts) {
-        return Decision {
-            task: 0,
-            effect: Err(Refusal::Damaged),
-        };
-    }
-    if !inside {
-        return Decision {
-            task: 0,
-            effect: Err(Refusal::Damaged),
-        };
-    }
-    match entries::read_entry(s) {
-        Err(r) => Decision {
-            task: 0,
-            effect: Err(r),
-        },
-        Ok(e) => {
-            let q = e.task;
-            let i = q.0;
-            let effect = entries::order(n, p, e, t, seen(cells, values, counts, t, p, k, free));
-            Decision {
-                task: i,
-                effect: effect,
-            }
-        }
-    }
-}
-
 // A step's one write, put into the table that it belongs to; the other tables are left alone.
 
 pub fn write_cells(cells: &mut [u8; 64], w: Write)
     ensures { cells.new ≡ cells_by (put_in 64) w cells.old }
 {
-    match w {
-        Write::Nothing => {}
-        Write::Point(x, v) => put_node(cells, x, v),
-        Write::Count(_, _, _) => {}
-        Write::Value(_, _) => {}
+    if let Write::Point(x, v) = w {
+        put_node(cells, x, v);
     }
 }
 
 pub fn write_values(values: &mut [u32; 128], w: Write)
     ensures { values.new ≡ values_by (put_in 128) w values.old }
 {
-    match w {
-        Write::Nothing => {}
-        Write::Point(_, _) => {}
-        Write::Count(_, _, _) => {}
-        Write::Value(v, y) => put_value(values, v, y),
+    if let Write::Value(v, y) = w {
+        put_value(values, v, y);
     }
 }
 
 pub fn write_counts(counts: &mut [u8; 128], w: Write)
     ensures { counts.new ≡ counts_by (put_in 128) w counts.old }
 {
-    match w {
-        Write::Nothing => {}
-        Write::Point(_, _) => {}
-        Write::Count(v, c, _) => put_count(counts, v, c),
-        Write::Value(_, _) => {}
+    if let Write::Count(v, c, _) = w {
+        put_count(counts, v, c);
     }
 }
 
@@ -216,42 +106,8 @@ pub fn write_free(free: u8, w: Write) -> u8
     ensures { result ≡ free_by w free }
 {
     match w {
-        Write::Nothing => free,
-        Write::Point(_, _) => free,
         Write::Count(_, _, left) => left,
-        Write::Value(_, _) => free,
-    }
-}
-
-// The record that an effect leaves its task, the one place that it writes, and its answer. A refusal leaves the record and writes nothing.
-
-fn task_by(e: Effect, t: Task) -> Task
-    ensures { result ≡ task_by e t }
-{
-    match e {
-        Err(_) => t,
-        Ok(d) => d.task,
-    }
-}
-
-fn write_by(e: Effect) -> Write
-    ensures { result ≡ write_by e }
-{
-    match e {
-        Err(_) => Write::Nothing,
-        Ok(d) => d.write,
-    }
-}
-
-fn answer_by(e: Effect) -> Answer
-    ensures { result ≡ answer_of e }
-{
-    match e {
-        Err(x) => Err(x),
-        Ok(d) => {
-            let y = d.reply;
-            Ok(y)
-        }
+        _ => free,
     }
 }
 
@@ -259,57 +115,112 @@ impl Machine {
     pub fn task_at(self, p: TaskNo) -> Task
         ensures { result ≡ task_in self.tasks p }
     {
-        let ts = self.tasks;
-        tables::task_at(ts, p)
+        self.task(p)
+    }
+
+    // The same of a machine that is lent.
+    pub fn task(&self, p: TaskNo) -> Task
+        ensures { result ≡ task_in self.now.tasks p }
+    {
+        match self.tasks.get(p.0 as usize) {
+            Some(t) => *t,
+            None => tasks::idle_owning(NodeNo(0)),
+        }
+    }
+
+    // What a step of the task record t may look at.
+    pub fn seen(&self, t: Task) -> Seen
+        ensures { result ≡ seen_of self.now t }
+    {
+        Seen {
+            here: node_at(&self.cells, t.cell),
+            held_count: count_at(&self.counts, t.held),
+            cursor_count: count_at(&self.counts, t.cursor),
+            held_value: value_at(&self.values, t.held),
+            tasks: self.p,
+            nodes: self.k,
+            free: self.free,
+        }
+    }
+
+    // The range test (22) of all but the task records.
+    pub fn tables_ok(&self) -> bool
+        ensures { result ≡ tables_ok self.now.n self.now.p self.now.k self.now.free self.now.cells self.now.counts }
+    {
+        free::pool_ok(self.n, self.p, self.k, self.free)
+            && tables::cells_ok(&self.cells, self.n, self.k)
+            && tables::counts_ok(&self.counts, self.k, self.p)
+    }
+
+    // The range test (22) of a machine that is lent.
+    pub fn sound(&self) -> bool
+        ensures { result ≡ in_range self.now }
+    {
+        self.tables_ok() && tables::tasks_ok(self.tasks, self.n, self.p, self.k)
     }
 
     // The range test (22).
     pub fn in_range(self) -> bool
         ensures { result ≡ in_range self }
     {
-        if !tables_ok(self.n, self.p, self.k, self.free, &self.cells, &self.counts) {
-            return false;
-        }
-        let ts = self.tasks;
-        tables::tasks_ok(ts, self.n, self.p, self.k)
+        self.sound()
     }
 
-    // One schedule entry, from its bytes: it is decided, and then written back. A refused entry hands the record back unchanged.
-    pub fn apply(mut self, s: &[u8]) -> Applied
-        ensures { result ≡ apply_of self s.now }
+    // The one place where an effect is written back: it holds the task's record and the one place that changes. A refusal writes nothing.
+    pub fn carry(&mut self, p: TaskNo, e: Effect) -> Answer
+        ensures { (self.new ≡ left_by self.old p e) × (result ≡ answer_of e) }
     {
-        let j = tables::slot(TaskNo(wire::byte_at(s, 2)));
-        let t = self.tasks[j];
-        let ts = self.tasks;
-        let inside = tables::tasks_ok(ts, self.n, self.p, self.k);
-        let d = decided(
-            self.n,
-            self.p,
-            self.k,
-            self.free,
-            &self.cells,
-            &self.values,
-            &self.counts,
-            t,
-            inside,
-            s,
-        );
-        let i = d.task;
-        let effect = d.effect;
-        // all that is held of the step: the task's record and one place. Refused or not there is one way out, as another would be another copy of `self`
-        let u = task_by(effect, t);
-        let w = write_by(effect);
-        let answer = answer_by(effect);
-        self.tasks[j] = u;
-        // as `turns::carry` does, but one after the other: three fields of one struct can't be lent in one call
+        let d = e?;
+        let w = d.write;
         write_cells(&mut self.cells, w);
         write_values(&mut self.values, w);
         write_counts(&mut self.counts, w);
         self.free = write_free(self.free, w);
+        let i = p.0 as usize;
+        if i < self.tasks.len() {
+            self.tasks[i] = d.task;
+        }
+        Ok(d.reply)
+    }
+
+    // What one schedule entry does, from its bytes; nothing is written.
+    #[tactic(auto, unfolding(crate::specs::Apply::judged_of, crate::specs::Apply::decision_of))]
+    fn decided(&self, s: &[u8]) -> Decision
+        ensures { result ≡ decision_of self.now s.now }
+    {
+        if !self.sound() {
+            return Decision {
+                task: 0,
+                effect: Err(Refusal::Damaged),
+            };
+        }
+        match entries::read_entry(s) {
+            Err(r) => Decision {
+                task: 0,
+                effect: Err(r),
+            },
+            Ok(e) => {
+                let t = self.task(e.task);
+                let effect = entries::order(self.n, self.p, e, t, self.seen(t));
+                Decision {
+                    task: e.task.0,
+                    effect,
+                }
+            }
+        }
+    }
+
+    // One schedule entry, from its bytes: it is decided, and then written back. A refused entry hands the record back unchanged.
+    #[tactic(auto, unfolding(crate::specs::Apply::apply_of, crate::specs::Machine::carried_of))]
+    pub fn apply(mut self, s: &[u8]) -> Applied
+        ensures { result ≡ apply_of self s.now }
+    {
+        let d = self.decided(s);
+        let answer = self.carry(TaskNo(d.task), d.effect);
         Applied {
             machine: self,
-            answer: answer,
-            task: i,
+            answer,
+            task: d.task,
         }
     }
 
@@ -317,7 +228,6 @@ impl Machine {
     pub fn holders(self, v: NodeNo) -> Option<usize>
         ensures { result ≡ held_among self.tasks self.p v }
     {
-        let ts = self.tasks;
-        tasks::held_among(ts, self.p, v)
+        tasks::held_among(self.tasks, self.p, v)
     }
 }

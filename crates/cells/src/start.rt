@@ -1,9 +1,10 @@
-// How a machine starts: a setup from its bytes, without a record. Its head, and its machine in lent tables.
+// How a machine starts: a setup from its bytes. Its head, and its machine in a lent record.
 ghost use Rattle.std.specs.Prelude.{◌≡◌, ℕ, ◌+◌, ◌*◌, ◌≤◌, replicate};
 ghost use Rattle.tallies.specs.Lists.{fill_to};
 ghost use Rattle.tasks.specs.Records.{node_no, no_task, idle_owning};
-ghost use Rattle.cells.specs.Setup.{refused_setup, setup_of, head_of, laid_of};
+ghost use Rattle.cells.specs.Setup.{blank_of, refused_setup, setup_of, head_of};
 
+use crate::Machine;
 use answers::Refusal;
 use tasks::{NodeNo, Task, TaskNo};
 
@@ -16,15 +17,20 @@ pub struct Head {
     pub answer: Result<usize, Refusal>,
 }
 
-// A setup's machine but for its three tables, and the answer.
-#[derive(Clone, Copy)]
-pub struct Laid {
-    pub n: u8,
-    pub p: u8,
-    pub k: u8,
-    pub free: u8,
-    pub tasks: [Task; 16],
-    pub answer: Result<usize, Refusal>,
+// All zero.
+pub fn blank() -> Machine
+    ensures { result ≡ blank_of }
+{
+    Machine {
+        n: 0,
+        p: 0,
+        k: 0,
+        free: 0,
+        cells: [0; 64],
+        values: [0; 128],
+        counts: [0; 128],
+        tasks: [tasks::idle_owning(NodeNo(0)); 16],
+    }
 }
 
 // Task i owns node n+i.
@@ -95,29 +101,21 @@ pub fn read_head(s: &[u8]) -> Head
     }
 }
 
-// The one place where a machine is set up: in lent tables, whatever they held, so that nobody needs a record to start from. A refused setup leaves all zeros, as one of no cells, tasks and nodes would.
-pub fn fill(s: &[u8], cells: &mut [u8; 64], values: &mut [u32; 128], counts: &mut [u8; 128]) -> Laid
-    ensures { (result ≡ laid_of (setup_of s.now)) × (cells.new ≡ (setup_of s.now).machine.cells) × (values.new ≡ (setup_of s.now).machine.values) × (counts.new ≡ (setup_of s.now).machine.counts) }
+// The one place where a machine is set up: in a lent one, whatever it held. A refused setup leaves all zeros, as one of no cells, tasks and nodes would.
+pub fn fill(m: &mut Machine, s: &[u8]) -> Result<usize, Refusal>
+    ensures { (m.new ≡ (setup_of s.now).machine) × (result ≡ (setup_of s.now).answer) }
 {
     let h = read_head(s);
-    let n = h.n;
-    let p = h.p;
-    let k = h.k;
-    *cells = [0; 64];
-    *values = [0; 128];
-    *counts = [0; 128];
-    tables::point_cells(cells, n);
-    tables::give_values(values, s, n);
-    tables::count_ones(counts, n + p);
-    let ts = owners(n, p);
-    let free = k - n - p;
-    let a = h.answer;
-    Laid {
-        n: n,
-        p: p,
-        k: k,
-        free: free,
-        tasks: ts,
-        answer: a,
-    }
+    m.n = h.n;
+    m.p = h.p;
+    m.k = h.k;
+    m.free = h.k - h.n - h.p;
+    m.cells = [0; 64];
+    m.values = [0; 128];
+    m.counts = [0; 128];
+    tables::point_cells(&mut m.cells, h.n);
+    tables::give_values(&mut m.values, s, h.n);
+    tables::count_ones(&mut m.counts, h.n + h.p);
+    m.tasks = owners(h.n, h.p);
+    h.answer
 }

@@ -2,5 +2,4 @@ pub mod Types
 pub mod Counts
 pub mod Run
 pub mod OneEntry
-pub mod Lent
 pub mod Input

@@ -8,4 +8,3 @@ pub use Rattle.cells.specs.declared.Machine.{Machine}
 pub use Rattle.cells.specs.declared.Applied.{Applied}
 pub use Rattle.runs.specs.declared.Report.{Report}
 pub use Rattle.runs.specs.declared.Ran.{Ran}
-pub use Rattle.runs.specs.declared.Left.{Left}

@@ -146,7 +146,7 @@ fn answered(input: &[u8], text: &mut [u8]) -> usize
     let answer = s.answer;
     let machine = s.machine;
     match answer {
-        Err(r) => refused(answers::refusal_number(r), text),
+        Err(r) => refused(u8::from(r), text),
         Ok(used) => bench(machine, &input[used..], text),
     }
 }

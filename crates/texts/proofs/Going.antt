@@ -1,19 +1,18 @@
 -- Piece by piece through an input, in either direction: what is left of it gives the whole. `make` is what a direction makes of an input. Assumes nothing.
 use Rattle.std.specs.Prelude.{Result, Ok, Err}
-use Prim.Native.Nat.{ℕ, ◌+◌, ◌≤◌, ◌<◌}
-use native.Mathlib.Nat.{zero-add}
+use Prim.Native.Nat.{ℕ, ◌+◌, ◌≤◌}
 use native.Mathlib.Omega.{arith}
 use native.Mathlib.Decide.{dec_le}
 use mathlib.Core.Path.{◌≡◌, refl, sym, ap, ◌∙◌}
 use mathlib.Core.Bool.{true, false≢true}
 use mathlib.Core.List.{List, [], ◌++◌}
 use lib.Seq.{take_at}
-use lib.ListN.{length, take, drop, length-append, drop_of_length-le}
+use lib.ListN.{length, take, drop, length-append}
 use Rattle.std.proofs.lemmas.List.{nil_from_length}
 use borrow.Author.Tests.{lt-ltb, le-ltb}
 use Rattle.wire.specs.Bytes.{overlaid}
 use Rattle.wire.proofs.Laws.{over_none, over-more, over-length}
-use Rattle.texts.specs.Types.{Refusal, TooLong, OutputShort}
+use Rattle.texts.specs.Types.{Refusal}
 use Rattle.texts.specs.Made.{Made, good, bad, behind, bytes_of, answered, laid, text_bytes}
 use Rattle.texts.specs.Steps.{length_of, is_good}
 
@@ -26,10 +25,6 @@ plus_behind : (k : ℕ) (b : List ℕ) (m : Made) → plus k (length_of (behind 
 plus_behind k b (good c) = let e : k + (length b + length c) ≡ k + length b + length c = omega arith in rw (length-append b c, e)
 plus_behind k b (bad r) = refl
 
-plus_none : (a : Result ℕ Refusal) → plus 0 a ≡ a
-plus_none (Ok n) = rw (zero-add n)
-plus_none (Err r) = refl
-
 good-behind : (b : List ℕ) (m : Made) → is_good (behind b m) ≡ true → (is_good m ≡ true) × (bytes_of (behind b m) ≡ b ++ bytes_of m)
 good-behind b (good c) h = (refl, refl)
 good-behind b (bad r) h = absurd (false≢true h)
@@ -38,9 +33,6 @@ module _ (make : List ℕ → Made) (s : List ℕ) where
   -- `rest` is left of the input, and `made` bytes came of what is in front of it
   abbrev pub Checking : List ℕ → ℕ → Type 0
   Checking rest made = plus made (length_of (make rest)) ≡ length_of (make s)
-
-  pub check_starts : Checking s 0
-  check_starts = plus_none (length_of (make s))
 
   pub check_on : (rest next b : List ℕ) (made : ℕ) → Checking rest made → make rest ≡ behind b (make next) → Checking next (made + length b)
   check_on rest next b made c e = sym (plus_behind made b (make next)) ∙ (rw e at c)
@@ -59,9 +51,6 @@ module _ (make : List ℕ → Made) (s : List ℕ) where
     pub fine : is_good (make rest) ≡ true
     pub room : to + length (bytes_of (make rest)) ≤ length o
     pub whole : overlaid o to (bytes_of (make rest)) ≡ overlaid o₀ 0 (bytes_of (make s))
-
-  pub write_starts : (o : List ℕ) → is_good (make s) ≡ true → length (bytes_of (make s)) ≤ length o → Writing o s 0 o
-  write_starts o g h = record { fine = g; room = omega (arith, h); whole = refl }
 
   module _ (o₀ rest : List ℕ) (to : ℕ) (o : List ℕ) (w : Writing o₀ rest to o) where
     pub write_room : (next b : List ℕ) → make rest ≡ behind b (make next) → to + length b ≤ length o

@@ -1,23 +1,21 @@
 -- One piece at a place of the input: a line, or an entry, is bad and decides, or gives its bytes in front of what the rest gives. Assumes nothing.
 use Rattle.std.specs.Prelude.{Result, Ok, Err}
-use Prim.Native.Nat.{ℕ, suc, ◌+◌, ◌-◌, ◌≤◌, ◌<◌, min}
+use Prim.Native.Nat.{ℕ, suc, ◌+◌, ◌≤◌, ◌<◌, min}
 use native.Mathlib.Omega.{arith}
 use native.Mathlib.Decide.{dec_lt}
 use mathlib.Core.Path.{◌≡◌, refl, sym, ap, subst, ◌∙◌}
 use mathlib.Core.Logic.{inl, inr}
 use mathlib.Core.Bool.{Bool, true, false, cond, ◌&&◌}
 use mathlib.Core.List.{List, [], ◌∷◌, ◌++◌, append_assoc}
-use lib.ListN.{length, take, drop, length-append, length-drop, take-append-drop}
-use lib.Seq.{drop-drop, drop-append-add, length-take-le}
-use lib.Dec.{eqb}
+use lib.ListN.{length, drop, length-append, length-drop}
+use lib.Seq.{drop-drop, drop-append-add}
 use borrow.Author.Tests.{lt-ltb}
-use Rattle.tallies.proofs.Lists.{part}
 use Rattle.wire.specs.Bytes.{overlaid}
-use Rattle.wire.proofs.Laws.{over-length, over_four}
+use Rattle.wire.proofs.Laws.{over-length, over-set, over_four}
 use Rattle.digits.specs.Decimal.{decimal}
+use Rattle.digits.proofs.Laws.{word-length}
 use Rattle.entries.specs.Entry.{entry_of, entry_bytes}
-use Rattle.entries.proofs.Laws.{entry_front}
-use Rattle.texts.specs.Types.{NotALine, TooLarge, NotZero, TooShort, Entry}
+use Rattle.texts.specs.Types.{Refusal, NotALine, TooLarge, TooShort, Entry}
 use Rattle.texts.specs.Line.{comma, newline, up_to, past, is_line, fits, entry_in, line_of}
 use Rattle.texts.specs.Made.{bad, behind, then}
 use Rattle.texts.specs.Text.{newlines, line_made, bytes_made, plain_of, entry_made, text_made}
@@ -26,13 +24,12 @@ use Rattle.texts.proofs.Parts.{up_to-free, parted}
 use Rattle.texts.proofs.Importing.{open_bad, made_more, made_last, newlines-more}
 use Rattle.texts.proofs.Exporting.{from_more, from_short}
 use Rattle.texts.proofs.Scan.{is_closed_lem, not_closed}
-use Rattle.answers.specs.declared.Refusal.{Refusal}
 
 -- what an answer about a line at `at` says of the text from there on
 abbrev pub Says : List ℕ → ℕ → Result (Entry × ℕ) Refusal → Type 0
 Says s at (Err r) = bytes_made (drop at s) ≡ bad r
 Says s at (Ok (e, next)) =
-    (bytes_made (drop at s) ≡ behind (entry_bytes e) (bytes_made (drop next s))) × (at < next) × (next ≤ length s) × (newlines (drop at s) ≡ suc (newlines (drop next s)))
+    (bytes_made (drop at s) ≡ behind (entry_bytes e) (bytes_made (drop next s))) × (at < next) × (newlines (drop at s) ≡ suc (newlines (drop next s)))
 
 pub line_says : (s : List ℕ) (at : ℕ) → at < length s → Says s at (line_at s at)
 unfolding line_at line_in line_made
@@ -59,7 +56,6 @@ line_says s at h = closing (is_closed t) refl
     sizes e q true p = (
       made e ∙ rw (q, p),
       omega arith,
-      omega (arith, ap (length {A = ℕ}) e, length-append w (newline ∷ past newline t), length-drop at s),
       ap newlines e ∙ newlines-more w (past newline t) (up_to-free newline t) ∙ ap (λ (u : List ℕ). suc (newlines u)) (rest e),
     )
     sizes e q false p = made e ∙ rw (q, p)
@@ -117,9 +113,9 @@ line-length e =
       length-append t (comma ∷ k),
     )
 
--- a field that is laid over a buffer leaves its length
-pub field_long : (o p : List ℕ) (at n close : ℕ) → at + length (decimal n) + 1 ≤ length o → p ≡ overlaid o at (decimal n ++ close ∷ []) → length p ≡ length o
-field_long o p at n close h e = ap length e ∙ over-length o at (decimal n ++ close ∷ []) (omega (arith, length-append (decimal n) (close ∷ [])))
+pub ruleset lengths = (word-length, line-length)
+
+pub ruleset laid_over = (over-length, over-set)
 
 -- four fields that are laid one behind the other are the line of their entry
 pub fields_line : (o : List ℕ) (at i j k : ℕ) (e : Entry) → at + length (line_of e) ≤ length o

@@ -1,27 +1,25 @@
 -- A line read once from its front: four numbers, each with the byte that closes it, are the line that the newline closes. Assumes nothing.
 use Rattle.std.specs.Prelude.{Option, Some, None, Result, Ok, Err}
-use Prim.Native.Nat.{ℕ, suc, ◌+◌, ◌-◌, ◌≤◌, ◌<◌}
+use Prim.Native.Nat.{ℕ, suc, ◌+◌, ◌-◌, ◌<◌}
 use native.Mathlib.Omega.{arith}
 use native.Mathlib.Nat.{min-eq_left}
 use native.Mathlib.Decide.{dec_le}
 use mathlib.Core.Path.{◌≡◌, refl, sym, ap, ◌∙◌}
 use mathlib.Core.Logic.{inl, inr}
-use mathlib.Core.Bool.{Bool, true, false, cond, and-false, ◌&&◌}
+use mathlib.Core.Bool.{Bool, true, false, cond, ◌&&◌}
 use mathlib.Core.List.{List, [], ◌∷◌, ◌++◌, append_assoc}
 use lib.ListN.{length, get_or, drop, length-append, length-drop}
 use lib.Seq.{drop-cons, drop-drop, get_or-append_seam, get_or-drop, drop-append-add}
 use lib.Dec.{eqb, leb, ltb}
-use borrow.Author.Tests.{lt-leb, leb-true, lt-ltb, le-ltb, ltb-true, ltb-false, eq-eqb, ne_eqb, eqb-true}
+use borrow.Author.Tests.{lt-leb, leb-true, lt-ltb, ltb-true, ltb-false, eq-eqb, eqb-true}
 use Rattle.tallies.proofs.Lists.{both, either}
 use Rattle.digits.specs.Decimal.{is_digit, all_digits, is_number, value_of, lead, capped, number_at}
 use Rattle.digits.proofs.Laws.{number_digits}
-use Rattle.texts.specs.Types.{NotALine, TooLarge}
+use Rattle.texts.specs.Types.{Entry, Refusal, NotALine, TooLarge}
 use Rattle.texts.specs.Line.{comma, newline, bare, small, entry_with, Line, up_to, past, is_line, fits}
 use Rattle.texts.specs.Steps.{closed_by, field_at, sized, is_closed, line_in, line_at}
 use Rattle.texts.proofs.Parts.{up_to_lem, up_to-none, parted}
 use Rattle.texts.proofs.Lines.{bare_text, bare_of, bare-line, bare-free, line-task, line-kind, line-cell, line-value, is_line_lem}
-use Rattle.entries.specs.declared.Entry.{Entry}
-use Rattle.answers.specs.declared.Refusal.{Refusal}
 
 -- the digits that a text starts with, up to a byte that is none
 lead_of : (y : List ℕ) (c : ℕ) (u : List ℕ) → all_digits y ≡ true → is_digit c ≡ false → lead (y ++ c ∷ u) ≡ y

@@ -1,4 +1,4 @@
--- Any two results that a public function's contract allows are equal, and so is what each lent table holds when the function returns. Assumes nothing.
+-- Any two results that a public function's contract allows are equal, and so is what the lent machine holds when the function returns. Assumes nothing.
 use mathlib.Core.Path.{sym, ◌∙◌}
 use Rattle.contracts.specs.One.{One}
 use Rattle.turns.proofs.carry.Kinds as carry·k
@@ -9,10 +9,10 @@ use Rattle.turns.proofs.turn.Kinds as turn·k
 use Rattle.turns.proofs.turn.Reads as turn
 
 pub carry_one : One carry·k.ps carry·k.r carry.Pre carry.Post
-carry_one κs a z z' ws ws' p q q' = (q.0 ∙ sym q'.0, λ i. ((q.1 ∙ sym q'.1) i, ((q.2 ∙ sym q'.2) i, ((q.3 ∙ sym q'.3) i, ws.1.1.1))))
+carry_one κs a z z' ws ws' p q q' = (q.1 ∙ sym q'.1, λ i. ((q.0 ∙ sym q'.0) i, ws.1))
 
 pub go_one : One go·k.ps go·k.r go.Pre go.Post
-go_one κs a z z' ws ws' p q q' = (q.0 ∙ sym q'.0, λ i. (ws.0, (ws.1.0, (ws.1.1.0, ((q.1 ∙ sym q'.1) i, ((q.2 ∙ sym q'.2) i, ((q.3 ∙ sym q'.3) i, ws.1.1.1.1.1.1)))))))
+go_one κs a z z' ws ws' p q q' = (q.1 ∙ sym q'.1, λ i. ((q.0 ∙ sym q'.0) i, ws.1))
 
 pub turn_one : One turn·k.ps turn·k.r turn.Pre turn.Post
-turn_one κs a z z' ws ws' p q q' = (q.0 ∙ sym q'.0, λ i. (ws.0, (ws.1.0, (ws.1.1.0, (ws.1.1.1.0, ((q.1 ∙ sym q'.1) i, ((q.2 ∙ sym q'.2) i, ((q.3 ∙ sym q'.3) i, ws.1.1.1.1.1.1.1))))))))
+turn_one κs a z z' ws ws' p q q' = (q.1 ∙ sym q'.1, λ i. ((q.0 ∙ sym q'.0) i, ws.1))

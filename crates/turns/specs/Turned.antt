@@ -1,17 +1,17 @@
--- What an effect comes to for its task t, of whose machine so many nodes are free: what is handed back, and each lent table.
-use Rattle.std.specs.Prelude.{ℕ, ◌≡◌, List}
-use Rattle.tables.specs.Tables.{put_in}
-use Rattle.steps.specs.Table.{answer_of}
-use Rattle.cells.specs.Machine.{cells_by, values_by, counts_by, free_by, task_by, write_by}
-use Rattle.turns.specs.Types.{Task, Effect, Turned}
+-- What a go and an entry come to for the task that they name, and what an effect leaves of the machine and answers.
+use Rattle.std.specs.Prelude.{◌≡◌}
+use Rattle.steps.specs.Table.{effect_of, answer_of}
+use Rattle.tables.specs.Tables.{task_in}
+use Rattle.entries.specs.Order.{order_of}
+use Rattle.cells.specs.Machine.{seen_of, left_by}
+use Rattle.turns.specs.Types.{TaskNo, Effect, Entry, Machine, Answer}
 
-abbrev pub turned_of : Effect → Task → ℕ → Turned
-turned_of e t free = record { task = task_by e t; free = free_by (write_by e) free; answer = answer_of e }
+abbrev pub gone_of : Machine → TaskNo → Effect
+gone_of m p = effect_of (task_in m.tasks p) (seen_of m (task_in m.tasks p))
 
--- r is handed back, and the tables, now cells, values and counts, become cells', values' and counts'
-abbrev pub Carries : Effect → Task → ℕ → Turned → List ℕ → List ℕ → List ℕ → List ℕ → List ℕ → List ℕ → Type 0
-Carries e t free r cells values counts cells' values' counts' =
-    (r ≡ turned_of e t free)
-    × (cells' ≡ cells_by (put_in 64) (write_by e) cells)
-    × (values' ≡ values_by (put_in 128) (write_by e) values)
-    × (counts' ≡ counts_by (put_in 128) (write_by e) counts)
+abbrev pub ordered_of : Machine → Entry → Effect
+ordered_of m e = order_of m.n m.p e (task_in m.tasks e.task) (seen_of m (task_in m.tasks e.task))
+
+-- an effect e of task p makes m' of the machine m, and is answered a
+abbrev pub Carries : Machine → TaskNo → Effect → Machine → Answer → Type 0
+Carries m p e m' a = (m' ≡ left_by m p e) × (a ≡ answer_of e)

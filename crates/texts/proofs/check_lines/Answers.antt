@@ -18,14 +18,14 @@ returns-in_err-next c =
 pub loop-at-smaller : goal.loop-at-smaller
 loop-at-smaller c =
     let t = line_tells c.args.text.now c.loop-at.at (Ok (c.in_ok-next.field-0-0, c.in_ok-next.next)) (omega arith) c.in_ok-next.ensures in
-    omega (arith, t.1, t.2)
+    omega (arith, t.1)
 
 pub loop-at-preserved : goal.loop-at-preserved
 loop-at-preserved c =
     let l = c.loop-at in
     let x = c.in_ok-next in
     let t = line_tells c.args.text.now l.at (Ok (x.field-0-0, x.next)) (omega arith) x.ensures in
-    (check_on bytes_made c.args.text.now _ _ (entry_bytes x.field-0-0) _ l.invariant.0 t.0, omega (arith, l.invariant.1, t.3))
+    (check_on bytes_made c.args.text.now _ _ (entry_bytes x.field-0-0) _ l.invariant.0 t.0, omega (arith, l.invariant.1, t.2))
 
 pub returns : goal.returns
 returns c = check_ends bytes_made c.args.text.now (drop c.loop-at.at c.args.text.now) _ c.loop-at.invariant.0 (omega (arith, length-drop {A = ℕ})) nothing_made

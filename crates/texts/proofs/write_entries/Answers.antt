@@ -19,7 +19,7 @@ returns-in_default c =
 pub loop-at-smaller : goal.loop-at-smaller
 loop-at-smaller c =
     let t = line_tells c.args.text.now c.loop-at.at (Ok (c.in-Ok.e, c.in-Ok.next)) (omega arith) c.in-Ok.ensures in
-    omega (arith, t.1, t.2)
+    omega (arith, t.1)
 
 pub loop-at-preserved : goal.loop-at-preserved
 loop-at-preserved c =

@@ -1,35 +1,32 @@
 -- `turn`: what is asked, done.
-use Rattle.std.proofs.Common.{◌∙◌, refl, ap, Ok}
-use Rattle.entries.proofs.Asking.{asked_done}
-use Rattle.cells.specs.Machine.{seen_in}
+use Rattle.std.proofs.Common.{◌∙◌, sym, refl, ap, Ok}
+use Rattle.std.proofs.lemmas.Result.{err_from_is_err_and}
+use Rattle.steps.specs.Table.{effect_of}
+use Rattle.cells.specs.Machine.{seen_of}
+use Rattle.turns.proofs.Picks.{ordered}
 use Rattle.turns.proofs.turn.Goals as goal
 
-pub returns-in-Err : goal.returns-in-Err
-returns-in-Err c =
-    let a = c.args in
-    rw (← (asked_done a.n a.p _ a.t (seen_in a.cells.now a.values.now a.counts.now a.t a.p a.k a.free) _ c.asks.ensures _ c.in-Err.is)) (c.refused.ensures, refl, refl, refl)
+pub returns-in_err-asks : goal.returns-in_err-asks
+returns-in_err-asks c =
+    let p = err_from_is_err_and c.from_residual.result c.from_residual.ensures.1 in
+    rw (p.1, p.2, ← ordered c.args.m.now c.args.e c.task-t.result c.task-t.ensures _ c.asks.ensures _ c.in_err-asks.was) (refl, refl)
 
-pub returns-in-Ok-ToGo : goal.returns-in-Ok-ToGo
-returns-in-Ok-ToGo c =
-    let a = c.args in
-    rw (← (asked_done a.n a.p _ a.t (seen_in a.cells.now a.values.now a.counts.now a.t a.p a.k a.free) _ c.asks.ensures _ (c.in-Ok-ToGo.is ∙ ap Ok c.in-Ok-ToGo.field-0-is))) c.go.ensures
+pub returns-in-ToGo : goal.returns-in-ToGo
+returns-in-ToGo c =
+    rw (← ordered c.args.m.now c.args.e c.task-t.result c.task-t.ensures _ c.asks.ensures _ (c.in_ok-asks.was ∙ ap Ok c.in-ToGo.is), c.task-t.ensures) c.go.ensures
 
-pub returns-in-Ok-ToLoad : goal.returns-in-Ok-ToLoad
-returns-in-Ok-ToLoad c =
-    let a = c.args in
-    rw (← (c.load.ensures ∙ asked_done a.n a.p _ a.t (seen_in a.cells.now a.values.now a.counts.now a.t a.p a.k a.free) _ c.asks.ensures _ (c.in-Ok-ToLoad.is ∙ ap Ok c.in-Ok-ToLoad.field-0-is))) c.carry.ensures
+pub returns-in-ToLoad : goal.returns-in-ToLoad
+returns-in-ToLoad c =
+    rw (← ordered c.args.m.now c.args.e c.task-t.result c.task-t.ensures _ c.asks.ensures _ (c.in_ok-asks.was ∙ ap Ok c.in-ToLoad.is), ← c.load.ensures) c.carry.ensures
 
-pub returns-in-Ok-ToStore : goal.returns-in-Ok-ToStore
-returns-in-Ok-ToStore c =
-    let a = c.args in
-    rw (← (c.store.ensures ∙ asked_done a.n a.p _ a.t (seen_in a.cells.now a.values.now a.counts.now a.t a.p a.k a.free) _ c.asks.ensures _ (c.in-Ok-ToStore.is ∙ ap Ok c.in-Ok-ToStore.field-0-is))) c.carry-in-Ok-ToStore.ensures
+pub returns-in-ToStore : goal.returns-in-ToStore
+returns-in-ToStore c =
+    rw (← ordered c.args.m.now c.args.e c.task-t.result c.task-t.ensures _ c.asks.ensures _ (c.in_ok-asks.was ∙ ap Ok c.in-ToStore.is), ← c.store.ensures) c.carry-in-ToStore.ensures
 
-pub returns-in-Ok-ToRelease : goal.returns-in-Ok-ToRelease
-returns-in-Ok-ToRelease c =
-    let a = c.args in
-    rw (← (c.linked_call.ensures ∙ asked_done a.n a.p _ a.t (seen_in a.cells.now a.values.now a.counts.now a.t a.p a.k a.free) _ c.asks.ensures _ (c.in-Ok-ToRelease.is ∙ ap Ok c.in-Ok-ToRelease.field-0-is))) c.carry-in-Ok-ToRelease.ensures
+pub returns-in-ToRelease : goal.returns-in-ToRelease
+returns-in-ToRelease c =
+    rw (← ordered c.args.m.now c.args.e c.task-t.result c.task-t.ensures _ c.asks.ensures _ (c.in_ok-asks.was ∙ ap Ok c.in-ToRelease.is), ← c.linked_call.ensures) c.carry-in-ToRelease.ensures
 
-pub returns-in-Ok-ToValidate : goal.returns-in-Ok-ToValidate
-returns-in-Ok-ToValidate c =
-    let a = c.args in
-    rw (← (c.linked_call-in-Ok-ToValidate.ensures ∙ asked_done a.n a.p _ a.t (seen_in a.cells.now a.values.now a.counts.now a.t a.p a.k a.free) _ c.asks.ensures _ (c.in-Ok-ToValidate.is ∙ ap Ok c.in-Ok-ToValidate.field-0-is))) c.carry-in-Ok-ToValidate.ensures
+pub returns-in-ToValidate : goal.returns-in-ToValidate
+returns-in-ToValidate c =
+    rw (← ordered c.args.m.now c.args.e c.task-t.result c.task-t.ensures _ c.asks.ensures _ (c.in_ok-asks.was ∙ ap Ok c.in-ToValidate.is), ← c.linked_call-in-ToValidate.ensures) c.carry-in-ToValidate.ensures

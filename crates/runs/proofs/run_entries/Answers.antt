@@ -1,0 +1,82 @@
+-- `run_entries`: what is left of the run gives the whole.
+use Rattle.std.proofs.Common.{◌≡◌, ◌+◌, rules, refl, ap, sym, ◌∙◌, arith}
+use Rattle.runs.proofs.Going.{starts, ends, fits}
+use Rattle.runs.proofs.Laws.{few_le}
+use Rattle.runs.proofs.Turning.{next-bytes, bytes-left, more-bytes, no-bytes, no-error, an-error, unread, turned-back, taken}
+use Rattle.runs.proofs.run_entries.Goals as goal
+
+pub loop-i-init : goal.loop-i-init
+loop-i-init c =
+    let a = c.args in
+    let count : c.into_iter-i-iterator.result.count ≡ 0 = search rules in
+    (search rules, tt, search rules, search rules, rw (count, c.no_report-report.ensures) (record { going = starts a.s.now a.out.now a.free_nodes.now a.m.now; long = c.requires.2; sound = c.requires.3 }))
+
+pub reply-requires : goal.reply-requires
+reply-requires c =
+    let l = c.loop-i in
+    let steps = c.in-Some.ensures.steps in
+    let more = more-bytes c.args.s.now l.i-iterator.count _ _ c.in-Some.bytes.now _ l.invariant.2 l.invariant.3 steps.0.1.0 steps.0.1.1 steps.0.1.2 in
+    omega (arith, steps.1, fits _ _ _ _ _ _ _ _ _ l.invariant.4.going more c.requires.1)
+
+pub reply-requires-in-loop-i : goal.reply-requires-in-loop-i
+reply-requires-in-loop-i c =
+    let l = c.loop-i in
+    let steps = c.in-Some.ensures.steps in
+    let more = more-bytes c.args.s.now l.i-iterator.count _ _ c.in-Some.bytes.now _ l.invariant.2 l.invariant.3 steps.0.1.0 steps.0.1.1 steps.0.1.2 in
+    omega (arith, steps.1, fits _ _ _ _ _ _ _ _ _ l.invariant.4.going more c.requires.1)
+
+pub counted-report-requires : goal.counted-report-requires
+counted-report-requires c =
+    let l = c.loop-i in
+    let steps = c.in-Some.ensures.steps in
+    let more = more-bytes c.args.s.now l.i-iterator.count _ _ c.in-Some.bytes.now _ l.invariant.2 l.invariant.3 steps.0.1.0 steps.0.1.1 steps.0.1.2 in
+    few_le _ 6553 _ (omega (arith, more, c.requires.0)) l.invariant.4.going.few
+
+pub returns-in-Err : goal.returns-in-Err
+returns-in-Err c =
+    let l = c.loop-i in
+    let steps = c.in-Some.ensures.steps.0 in
+    let n = c.from-number.ensures in
+    let at : c.in-Some.i ≡ l.i-iterator.count = c.in-Some.ensures.steps.1 in
+    let more = more-bytes c.args.s.now l.i-iterator.count _ _ c.in-Some.bytes.now _ l.invariant.2 l.invariant.3 steps.1.0 steps.1.1 steps.1.2 in
+    let bytes = next-bytes c.args.s.now l.i-iterator.count _ _ _ _ l.invariant.2 l.invariant.3 steps.1.0 steps.1.1 in
+    unread l.invariant.4 more c.requires.1 _ bytes c.in-Err.r (sym c.read_entry.ensures ∙ c.in-Err.is)
+    _ (c.reply.ensures ∙ rw (at, n) refl) _ (c.note.ensures ∙ rw at refl) _ (c.stopped.ensures ∙ rw n refl)
+
+pub returns-then-is_err : goal.returns-then-is_err
+returns-then-is_err c =
+    let l = c.loop-i in
+    let steps = c.in-Some.ensures.steps.0 in
+    let n = c.number-number.ensures in
+    let v = c.value.ensures in
+    let at : c.in-Some.i ≡ l.i-iterator.count = c.in-Some.ensures.steps.1 in
+    let more = more-bytes c.args.s.now l.i-iterator.count _ _ c.in-Some.bytes.now _ l.invariant.2 l.invariant.3 steps.1.0 steps.1.1 steps.1.2 in
+    let bytes = next-bytes c.args.s.now l.i-iterator.count _ _ _ _ l.invariant.2 l.invariant.3 steps.1.0 steps.1.1 in
+    turned-back l.invariant.4 more c.requires.1 _ bytes c.in-Ok.e (sym c.read_entry.ensures ∙ c.in-Ok.is) c.turn-a.new.m c.turn-a.result c.turn-a.ensures
+    _ (c.reply-in-loop-i.ensures ∙ rw (at, n, v) refl) _ (c.note-in-loop-i.ensures ∙ rw at refl) _ (an-error _ c.if-is_err.ensures.negation) (c.stopped-then-is_err.ensures ∙ rw n refl)
+
+pub loop-i-preserved : goal.loop-i-preserved
+loop-i-preserved c =
+    let l = c.loop-i in
+    let steps = c.in-Some.ensures.steps.0 in
+    let n = c.number-number.ensures in
+    let v = c.value.ensures in
+    let at : c.in-Some.i ≡ l.i-iterator.count = c.in-Some.ensures.steps.1 in
+    let next : c.next.new.self.count ≡ l.i-iterator.count + 1 = c.in-Some.ensures.steps.2 in
+    let more = more-bytes c.args.s.now l.i-iterator.count _ _ c.in-Some.bytes.now _ l.invariant.2 l.invariant.3 steps.1.0 steps.1.1 steps.1.2 in
+    let bytes = next-bytes c.args.s.now l.i-iterator.count _ _ _ _ l.invariant.2 l.invariant.3 steps.1.0 steps.1.1 in (
+      search rules,
+      tt,
+      steps.0 ∙ l.invariant.2,
+      bytes-left c.args.s.now l.i-iterator.count _ _ _ _ l.invariant.2 l.invariant.3 steps.1.0 steps.1.1 ∙ rw next refl,
+      rw next
+      (taken l.invariant.4 more c.requires.1 _ bytes c.in-Ok.e (sym c.read_entry.ensures ∙ c.in-Ok.is) c.turn-a.new.m c.turn-a.result c.turn-a.ensures
+      _ (c.reply-in-loop-i.ensures ∙ rw (at, n, v) refl) _ (c.note-in-loop-i.ensures ∙ rw at refl) _ (no-error _ c.if-is_err.ensures.negation)
+      (c.counted-report.ensures ∙ rw (c.task-from.ensures, c.task.ensures) refl)),
+    )
+
+pub returns : goal.returns
+returns c =
+    let l = c.loop-i in
+    let o = ends _ _ _ _ _ _ _ _ _ l.invariant.4.going (no-bytes c.args.s.now l.i-iterator.count _ l.invariant.3 c.in-None.ensures.steps.0.1.0) in
+    (ap (λ y. y.machine) o.0, ap (λ y. y.report) o.0, o.1, o.2)
