@@ -8,7 +8,7 @@ ghost use Rattle.std.specs.Prelude.{◌≡◌};
 ghost use Rattle.tasks.specs.Holders.{held_among};
 ghost use Rattle.steps.specs.Table.{answer_of};
 ghost use Rattle.tables.specs.Tables.{task_in, put_in};
-ghost use Rattle.cells.specs.Machine.{seen_of, cells_by, values_by, counts_by, free_by, left_by, tables_ok, in_range};
+ghost use Rattle.cells.specs.Machine.{seen_of, cells_by, values_by, counts_by, free_by, placed, left_by, tables_ok, in_range};
 ghost use Rattle.cells.specs.Apply.{decision_of, apply_of};
 ghost use Rattle.cells.specs.Setup.{setup_of, setup_number, setup_bytes};
 
@@ -115,17 +115,14 @@ impl Machine {
     pub fn task_at(self, p: TaskNo) -> Task
         ensures { result ≡ task_in self.tasks p }
     {
-        self.task(p)
+        tables::task_at(self.tasks, p)
     }
 
-    // The same of a machine that is lent.
+    // The same of a machine that is lent, where a number past the 16th stands for the last: so no branch is taken on it.
     pub fn task(&self, p: TaskNo) -> Task
-        ensures { result ≡ task_in self.now.tasks p }
+        ensures { result ≡ task_in self.now.tasks (placed p) }
     {
-        match self.tasks.get(p.0 as usize) {
-            Some(t) => *t,
-            None => tasks::idle_owning(NodeNo(0)),
-        }
+        self.tasks[tables::slot(p)]
     }
 
     // What a step of the task record t may look at.
@@ -168,7 +165,7 @@ impl Machine {
 
     // The one place where an effect is written back: it holds the task's record and the one place that changes. A refusal writes nothing.
     pub fn carry(&mut self, p: TaskNo, e: Effect) -> Answer
-        ensures { (self.new ≡ left_by self.old p e) × (result ≡ answer_of e) }
+        ensures { (self.new ≡ left_by self.old (placed p) e) × (result ≡ answer_of e) }
     {
         let d = e?;
         let w = d.write;
@@ -176,10 +173,7 @@ impl Machine {
         write_values(&mut self.values, w);
         write_counts(&mut self.counts, w);
         self.free = write_free(self.free, w);
-        let i = p.0 as usize;
-        if i < self.tasks.len() {
-            self.tasks[i] = d.task;
-        }
+        self.tasks[tables::slot(p)] = d.task;
         Ok(d.reply)
     }
 
