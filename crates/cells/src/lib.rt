@@ -112,13 +112,13 @@ pub fn write_free(free: u8, w: Write) -> u8
 }
 
 impl Machine {
-    pub fn task_at(self, p: TaskNo) -> Task
-        ensures { result ≡ task_in self.tasks p }
+    pub fn task_at(&self, p: TaskNo) -> Task
+        ensures { result ≡ task_in self.now.tasks p }
     {
         tables::task_at(self.tasks, p)
     }
 
-    // The same of a machine that is lent, where a number past the 16th stands for the last: so no branch is taken on it.
+    // The same, where a number past the 16th stands for the last: so no branch is taken on it.
     pub fn task(&self, p: TaskNo) -> Task
         ensures { result ≡ task_in self.now.tasks (placed p) }
     {
@@ -149,18 +149,11 @@ impl Machine {
             && tables::counts_ok(&self.counts, self.k, self.p)
     }
 
-    // The range test (22) of a machine that is lent.
-    pub fn sound(&self) -> bool
+    // The range test (22).
+    pub fn in_range(&self) -> bool
         ensures { result ≡ in_range self.now }
     {
         self.tables_ok() && tables::tasks_ok(self.tasks, self.n, self.p, self.k)
-    }
-
-    // The range test (22).
-    pub fn in_range(self) -> bool
-        ensures { result ≡ in_range self }
-    {
-        self.sound()
     }
 
     // The one place where an effect is written back: it holds the task's record and the one place that changes. A refusal writes nothing.
@@ -182,7 +175,7 @@ impl Machine {
     fn decided(&self, s: &[u8]) -> Decision
         ensures { result ≡ decision_of self.now s.now }
     {
-        if !self.sound() {
+        if !self.in_range() {
             return Decision {
                 task: 0,
                 effect: Err(Refusal::Damaged),
@@ -219,8 +212,8 @@ impl Machine {
     }
 
     // The holders question, asked of the record's own tasks.
-    pub fn holders(self, v: NodeNo) -> Option<usize>
-        ensures { result ≡ held_among self.tasks self.p v }
+    pub fn holders(&self, v: NodeNo) -> Option<usize>
+        ensures { result ≡ held_among self.now.tasks self.now.p v }
     {
         tasks::held_among(self.tasks, self.p, v)
     }
