@@ -5,12 +5,12 @@ use denote.Param.Laws.{Laws, IsCopy}
 use mir.Syntax.{Dict}
 use Rattle.std.specs.declared.clone.Clone.{Ghosts}
 use Rattle.contracts.specs.One.{One}
-use Rattle.answers.proofs.reply_number.Kinds as reply-number·k
-use Rattle.answers.proofs.reply_number.Reads as reply-number
+use Rattle.answers.proofs.U8FromReply.from.Kinds as reply-number·k
+use Rattle.answers.proofs.U8FromReply.from.Reads as reply-number
 use Rattle.answers.proofs.reply_value.Kinds as reply-value·k
 use Rattle.answers.proofs.reply_value.Reads as reply-value
-use Rattle.answers.proofs.refusal_number.Kinds as refusal-number·k
-use Rattle.answers.proofs.refusal_number.Reads as refusal-number
+use Rattle.answers.proofs.U8FromRefusal.from.Kinds as refusal-number·k
+use Rattle.answers.proofs.U8FromRefusal.from.Reads as refusal-number
 use Rattle.answers.proofs.refusal_or_0.Kinds as refusal-or-0·k
 use Rattle.answers.proofs.refusal_or_0.Reads as refusal-or-0
 use Rattle.answers.proofs.number.Kinds as number·k

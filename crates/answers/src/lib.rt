@@ -39,17 +39,19 @@ pub enum Refusal {
 // A reply, or why there is none.
 pub type Answer = Result<Reply, Refusal>;
 
-pub fn reply_number(r: Reply) -> u8
-    ensures { result ≡ reply_number r }
-{
-    match r {
-        Reply::Moved => 0,
-        Reply::Loaded(_) => 1,
-        Reply::Took => 2,
-        Reply::Lost => 3,
-        Reply::Released => 4,
-        Reply::Good => 5,
-        Reply::Gone => 6,
+impl From<Reply> for u8 {
+    ghost from_gives = { λ r n. n ≡ reply_number r };
+
+    fn from(r: Reply) -> u8 {
+        match r {
+            Reply::Moved => 0,
+            Reply::Loaded(_) => 1,
+            Reply::Took => 2,
+            Reply::Lost => 3,
+            Reply::Released => 4,
+            Reply::Good => 5,
+            Reply::Gone => 6,
+        }
     }
 }
 
@@ -62,25 +64,27 @@ pub fn reply_value(r: Reply) -> u32
     }
 }
 
-pub fn refusal_number(r: Refusal) -> u8
-    ensures { result ≡ refusal_number r }
-{
-    match r {
-        Refusal::Sizes => 11,
-        Refusal::NoTask => 12,
-        Refusal::NoKind => 13,
-        Refusal::NoCell => 14,
-        Refusal::NotZero => 15,
-        Refusal::NotNow => 16,
-        Refusal::NoStep => 17,
-        Refusal::WrongMark => 19,
-        Refusal::TooShort => 20,
-        Refusal::NoRoom => 21,
-        Refusal::Damaged => 22,
-        Refusal::TooLong => 23,
-        Refusal::NotALine => 30,
-        Refusal::TooLarge => 31,
-        Refusal::OutputShort => 32,
+impl From<Refusal> for u8 {
+    ghost from_gives = { λ r n. n ≡ refusal_number r };
+
+    fn from(r: Refusal) -> u8 {
+        match r {
+            Refusal::Sizes => 11,
+            Refusal::NoTask => 12,
+            Refusal::NoKind => 13,
+            Refusal::NoCell => 14,
+            Refusal::NotZero => 15,
+            Refusal::NotNow => 16,
+            Refusal::NoStep => 17,
+            Refusal::WrongMark => 19,
+            Refusal::TooShort => 20,
+            Refusal::NoRoom => 21,
+            Refusal::Damaged => 22,
+            Refusal::TooLong => 23,
+            Refusal::NotALine => 30,
+            Refusal::TooLarge => 31,
+            Refusal::OutputShort => 32,
+        }
     }
 }
 
@@ -90,7 +94,7 @@ pub fn refusal_or_0<T: Copy>(a: Result<T, Refusal>) -> u8
 {
     match a {
         Ok(_) => 0,
-        Err(r) => refusal_number(r),
+        Err(refusal) => u8::from(refusal),
     }
 }
 
@@ -98,8 +102,8 @@ pub fn number(a: Answer) -> u8
     ensures { result ≡ number_of a }
 {
     match a {
-        Ok(r) => reply_number(r),
-        Err(r) => refusal_number(r),
+        Ok(r) => u8::from(r),
+        Err(r) => u8::from(r),
     }
 }
 

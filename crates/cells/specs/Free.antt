@@ -1,6 +1,6 @@
 -- The free-nodes question, answered from the number that the record keeps.
 use Rattle.std.specs.Prelude.{ℕ, cond, Result, Ok, Err}
-use Rattle.answers.specs.Numbers.{refusal_number}
+use Rattle.answers.specs.Numbers.{refusal_or_0}
 use Rattle.cells.specs.Types.{Machine, Damaged}
 use Rattle.cells.specs.Machine.{pool_ok}
 use Rattle.answers.specs.declared.Refusal.{Refusal}
@@ -14,8 +14,7 @@ abbrev pub free_nodes : Machine → Result ℕ Refusal
 free_nodes m = free_of m.n m.p m.k m.free
 
 abbrev pub free_number : Result ℕ Refusal → ℕ
-free_number (Ok n) = 0
-free_number (Err r) = refusal_number r
+free_number f = refusal_or_0 f
 
 -- a refused question gives no number
 abbrev pub free_value : Result ℕ Refusal → ℕ

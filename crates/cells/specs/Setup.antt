@@ -2,7 +2,7 @@
 use Rattle.std.specs.Prelude.{ℕ, ◌+◌, ◌-◌, ◌*◌, cond, not, List, eqb, ltb, length, get_or, replicate, Result, Ok, Err}
 use Rattle.tallies.specs.Lists.{fill_to}
 use Rattle.wire.specs.Bytes.{setup_mark, marked}
-use Rattle.answers.specs.Numbers.{refusal_number}
+use Rattle.answers.specs.Numbers.{refusal_or_0}
 use Rattle.tasks.specs.Records.{node_no, no_task, idle_owning}
 use Rattle.tables.specs.Tables.{sizes_ok, value_given}
 use Rattle.cells.specs.Types.{Machine, SetUp, Head, Refusal, Sizes, NotZero, WrongMark, TooShort}
@@ -54,8 +54,7 @@ head_of x = record { n = x.machine.n; p = x.machine.p; k = x.machine.k; answer =
 
 -- document 01's number of a setup's answer; an accepted one has none, here 0
 abbrev pub setup_number : Result ℕ Refusal → ℕ
-setup_number (Ok used) = 0
-setup_number (Err r) = refusal_number r
+setup_number a = refusal_or_0 a
 
 -- the bytes that a setup used
 abbrev pub setup_bytes : Result ℕ Refusal → ℕ

@@ -1,27 +1,33 @@
--- Lists that agree place by place are the same, and so are records that agree field by field. Assumes nothing.
-use Prim.Native.Nat.{ℕ, ◌+◌, ◌≤◌, ◌<◌}
-use native.Mathlib.Numerals.{add-one}
-use mathlib.Core.Path.{◌≡◌, sym, ◌∙◌}
-use mathlib.Core.Bool.{true, false, false≢true}
-use mathlib.Core.List.{List}
-use lib.ListN.{length, get_or, take}
-use lib.Seq.{take-suc, take_all}
+-- `==` on machine records, as it is derived, answers true exactly where they are the same: what the program prints as kept is what it was. Assumes nothing.
+use mathlib.Core.Path.{◌≡◌, ap, refl}
+use Rattle.std.specs.Bool.{Decides}
+use Rattle.std.proofs.lemmas.Bool.Decides.{Decides-and, Decides-eqb, Decides-like}
+use Rattle.std.proofs.lemmas.Slice.Eq.{slice_eq-Decides}
 use Rattle.tasks.specs.declared.Task.{Task}
+use Rattle.tasks.specs.contracts.TaskPartialEq.TheImpl.{eq-value as task_eq}
 use Rattle.cells.specs.declared.Machine.{Machine}
+use Rattle.cells.specs.contracts.MachinePartialEq.TheImpl.{eq-value as machine_eq}
 
--- the answer `false` says nothing
-pub silent {ℓ} : {X : Type ℓ} → false ≡ true → X
-silent e = absurd (false≢true e)
+task-same : (t u : Task) → Decides (task_eq.it t u) (t ≡ u)
+task-same t u =
+    Decides-like _
+    (λ (p, (x, (y, (m, (o, k))))). λ i. record { phase = p i; cell = record { 0 = x i }; value = y i; held = record { 0 = m i }; own = record { 0 = o i }; cursor = record { 0 = k i } })
+    (λ e. (ap (λ v. v.phase) e, (ap (λ v. v.cell.0) e, (ap (λ v. v.value) e, (ap (λ v. v.held.0) e, (ap (λ v. v.own.0) e, ap (λ v. v.cursor.0) e))))))
+    (Decides-and _ _ (Decides-eqb t.phase u.phase)
+    (Decides-and _ _ (Decides-eqb t.cell.0 u.cell.0)
+    (Decides-and _ _ (Decides-eqb t.value u.value)
+    (Decides-and _ _ (Decides-eqb t.held.0 u.held.0)
+    (Decides-and _ _ (Decides-eqb t.own.0 u.own.0) (Decides-eqb t.cursor.0 u.cursor.0))))))
 
-module _ {A : Type 0} where
-  pub agree_more : (a b : List A) (i : ℕ) (d : A) → i < length a → i < length b → take i a ≡ take i b → get_or a i d ≡ get_or b i d → take (i + 1) a ≡ take (i + 1) b
-  agree_more a b i d la lb h e = rw (add-one, take-suc a i d la, take-suc b i d lb, h, e)
-
-  pub agree_all : (a b : List A) (i : ℕ) → length a ≤ i → length b ≤ i → take i a ≡ take i b → a ≡ b
-  agree_all a b i la lb h = sym (take_all i a la) ∙ h ∙ take_all i b lb
-
-pub task-same : (a b : Task) → a.phase ≡ b.phase → a.cell.0 ≡ b.cell.0 → a.value ≡ b.value → a.held.0 ≡ b.held.0 → a.own.0 ≡ b.own.0 → a.cursor.0 ≡ b.cursor.0 → a ≡ b
-task-same a b f x y m o k = λ i. record { phase = f i; cell = record { 0 = x i }; value = y i; held = record { 0 = m i }; own = record { 0 = o i }; cursor = record { 0 = k i } }
-
-pub machine-same : (a b : Machine) → a.n ≡ b.n → a.p ≡ b.p → a.k ≡ b.k → a.free ≡ b.free → a.cells ≡ b.cells → a.values ≡ b.values → a.counts ≡ b.counts → a.tasks ≡ b.tasks → a ≡ b
-machine-same a b n p k f x y c t = λ i. record { n = n i; p = p i; k = k i; free = f i; cells = x i; values = y i; counts = c i; tasks = t i }
+pub machine-same : (a b : Machine) → Decides (machine_eq.it a b) (a ≡ b)
+machine-same a b =
+    Decides-like _
+    (λ (n, (p, (k, (f, (x, (y, (c, t))))))). λ i. record { n = n i; p = p i; k = k i; free = f i; cells = x i; values = y i; counts = c i; tasks = t i })
+    (λ e. (ap (λ m. m.n) e, (ap (λ m. m.p) e, (ap (λ m. m.k) e, (ap (λ m. m.free) e, (ap (λ m. m.cells) e, (ap (λ m. m.values) e, (ap (λ m. m.counts) e, ap (λ m. m.tasks) e))))))))
+    (Decides-and _ _ (Decides-eqb a.n b.n)
+    (Decides-and _ _ (Decides-eqb a.p b.p)
+    (Decides-and _ _ (Decides-eqb a.k b.k)
+    (Decides-and _ _ (Decides-eqb a.free b.free)
+    (Decides-and _ _ (slice_eq-Decides Decides-eqb a.cells b.cells _ refl)
+    (Decides-and _ _ (slice_eq-Decides Decides-eqb a.values b.values _ refl)
+    (Decides-and _ _ (slice_eq-Decides Decides-eqb a.counts b.counts _ refl) (slice_eq-Decides task-same a.tasks b.tasks _ refl))))))))

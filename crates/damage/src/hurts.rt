@@ -4,23 +4,18 @@ use tasks::{CellNo, NodeNo, Task, TaskNo};
 
 // N 2, P 2, K 100, values 7 and 8.
 pub(crate) fn sound() -> Machine {
-    let s = [0x53u8, 0x55, 2, 2, 100, 0, 7, 0, 0, 0, 8, 0, 0, 0];
-    let a = Machine::setup(&s);
-    let m = a.machine;
-    m
+    Machine::setup(&[0x53, 0x55, 2, 2, 100, 0, 7, 0, 0, 0, 8, 0, 0, 0]).machine
 }
 
 // With another number of free nodes than its 96.
 pub(crate) fn freed(free: u8) -> Machine {
-    let mut d = sound();
-    d.free = free;
-    d
+    Machine { free, ..sound() }
 }
 
 // A task's record from plain numbers, as only a damage can make it.
 pub(crate) fn task(phase: u8, x: u8, m: u8, own: u8, cursor: u8) -> Task {
     Task {
-        phase: phase,
+        phase,
         cell: CellNo(x),
         value: 0,
         held: NodeNo(m),
@@ -31,15 +26,13 @@ pub(crate) fn task(phase: u8, x: u8, m: u8, own: u8, cursor: u8) -> Task {
 
 pub(crate) fn replaced(p: TaskNo, t: Task) -> Machine {
     let mut d = sound();
-    let j = tables::slot(p);
-    d.tasks[j] = t;
+    d.tasks[tables::slot(p)] = t;
     d
 }
 
 // Task 1 in that phase, at cell 0, with node 0 as its m and its cursor; node 0 has that count, and so many nodes are free.
 pub(crate) fn stepping(phase: u8, count: u8, free: u8) -> Machine {
-    let t = task(phase, 0, 0, 3, 0);
-    let mut d = replaced(TaskNo(1), t);
+    let mut d = replaced(TaskNo(1), task(phase, 0, 0, 3, 0));
     d.counts[0] = count;
     d.free = free;
     d

@@ -1,12 +1,12 @@
 // The lengths of a reply buffer and of an entry. Task 0 is in phase 0, as setup made it, or 16, which is damage.
 ghost use Rattle.std.specs.Prelude.{◌≤◌};
 
-use crate::{hurts, lines, same, shows};
+use crate::lines::kept;
+use crate::shows::{Kind, two};
+use crate::{hurts, shows};
 use cells::{Applied, Machine};
 use std::io;
 use tasks::TaskNo;
-
-const LOAD: u8 = 1;
 
 fn record(phase: u8) -> Machine {
     hurts::replaced(TaskNo(0), hurts::task(phase, 0, 0, 2, 0))
@@ -16,9 +16,9 @@ fn record(phase: u8) -> Machine {
 fn ran(rt: &impl Print, phase: u8, n: usize, room: usize) -> io::Result<()>
     requires { (n ≤ 20) × (room ≤ 16) }
 {
-    lines::run(rt, n, room, phase)?;
-    let s = shows::two(LOAD);
-    let mut out = [0xAAu8; 16];
+    print!(rt; "run of {n} bytes, room for {room}, task 0 phase {phase}")?;
+    let s = two(Kind::Load);
+    let mut out = [0xAA; 16];
     shows::run(rt, record(phase), &s[..n], &mut out[..room])
 }
 
@@ -36,24 +36,15 @@ pub(crate) fn runs(rt: &impl Print) -> io::Result<()> {
 fn taken(phase: u8, n: usize) -> Applied
     requires { n ≤ 20 }
 {
-    let s = shows::two(LOAD);
-    record(phase).apply(&s[..n])
+    record(phase).apply(&two(Kind::Load)[..n])
 }
 
 fn tried(rt: &impl Print, phase: u8, n: usize) -> io::Result<()>
     requires { n ≤ 20 }
 {
-    lines::entry(rt, n, phase)?;
+    print!(rt; "entry of {n} bytes, task 0 phase {phase}")?;
     shows::entry(rt, record(phase), taken(phase, n))?;
     println!(rt;)
-}
-
-fn after(n: usize) -> Machine
-    requires { n ≤ 20 }
-{
-    let a = taken(0, n);
-    let m = a.machine;
-    m
 }
 
 pub(crate) fn entries(rt: &impl Print) -> io::Result<()> {
@@ -61,7 +52,9 @@ pub(crate) fn entries(rt: &impl Print) -> io::Result<()> {
     tried(rt, 0, 10)?;
     tried(rt, 0, 20)?;
     tried(rt, 16, 0)?;
-    print!(rt; "record of 20 bytes, against that of their first 10:")?;
-    lines::kept(rt, same::same(after(20), after(10)))?;
-    println!(rt;)
+    let same = taken(0, 20).machine == taken(0, 10).machine;
+    println!(rt;
+        "record of 20 bytes, against that of their first 10: {}",
+        kept(same)
+    )
 }

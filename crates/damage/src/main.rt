@@ -23,7 +23,6 @@ mod by_step;
 mod hurts;
 mod lengths;
 mod lines;
-mod same;
 mod shows;
 
 fn main(rt: HostRuntime) -> io::Result<()> {

@@ -5,12 +5,14 @@ use native.Mathlib.Nat.{le_refl, min-eq_left, min-eq_right, add-zero, not-suc-le
 use native.Mathlib.Omega.{arith}
 use native.Mathlib.Decide.{dec_le}
 use mathlib.Core.Path.{◌≡◌, refl, sym, ap, ◌∙◌}
+use mathlib.Core.Logic.{◌≢◌}
 use mathlib.Core.Bool.{true, false, cond, and-false, or-true}
 use mathlib.Core.List.{List, [], ◌∷◌}
 use lib.ListN.{length, get_or, drop, drop_of_length-le}
 use lib.Seq.{drop-cons, get_or-drop}
-use borrow.Author.Tests.{le-leb, lt-leb, ne_eqb}
+use borrow.Author.Tests.{le-leb, ne_eqb}
 use Rattle.tallies.proofs.Lists.{either}
+use Rattle.digits.specs.Types.{Digits}
 use Rattle.digits.specs.Decimal.{is_digit, all_digits, is_number, onward, value_of, lead, capped, digits_at, number_at}
 
 onward_grows : (w : List ℕ) (v : ℕ) → v ≤ onward v w
@@ -74,13 +76,12 @@ reading_ends s at v end r none =
     let place : end ≡ at + length (lead (drop at s)) = let p = rw none at r.place in omega (arith, p) in
     rw (← value, ← place)
 
--- a byte below or above the digits ends them
-pub stops_below : (s : List ℕ) (at v end : ℕ) → Reading s at v end → end < length s → get_or s end 0 < 0x30 → record { value = v; end = end } ≡ digits_at s at
-stops_below s at v end r l h = reading_ends s at v end r (lead_stops s end l (rw (lt-leb 0x30 (get_or s end 0) h)))
+-- a byte that is no digit ends them, and so does the end of the text
+pub stops_before : (s : List ℕ) (at v end : ℕ) → Reading s at v end → end < length s → is_digit (get_or s end 0) ≡ false → record { value = v; end = end } ≡ digits_at s at
+stops_before s at v end r l h = reading_ends s at v end r (lead_stops s end l h)
 
-pub stops_above : (s : List ℕ) (at v end : ℕ) → Reading s at v end → end < length s → 0x39 < get_or s end 0 → record { value = v; end = end } ≡ digits_at s at
-stops_above s at v end r l h =
-    reading_ends s at v end r (lead_stops s end l (rw (le-leb 0x30 (get_or s end 0) (omega arith), lt-leb (get_or s end 0) 0x39 h)))
+pub stops_at_end : (s : List ℕ) (at v end n : ℕ) → Reading s at v end → length s ≤ end → n ≡ length s → record { value = v; end = n } ≡ digits_at s at
+stops_at_end s at v end n r h e = let same : n ≡ end = omega (arith, r.within) in rw same (reading_ends s at v end r (lead-ends s end h))
 
 -- the digits that a text starts with are digits, and its first bytes
 pub lead_digits : (s : List ℕ) → all_digits (lead s) ≡ true
@@ -96,23 +97,38 @@ first_digit (b ∷ t) h = either (λ d. 1 ≤ length (cond d (b ∷ lead t) []) 
 pub lead_first : (s : List ℕ) (at : ℕ) → 1 ≤ length (lead (drop at s)) → get_or (lead (drop at s)) 0 0 ≡ get_or s at 0
 lead_first s at h = first_digit (drop at s) h ∙ get_or-drop at s 0 0 ∙ ap (λ (k : ℕ). get_or s k 0) (add-zero at)
 
--- whether the digits at a place are a number: by how many they are, and by the first one
+-- whether the digits at a place are a number: by where they end, and by the first one
 module _ (s : List ℕ) (at : ℕ) where
   abbrev w : List ℕ
   w = lead (drop at s)
 
-  pub number-none : length w ≡ 0 → number_at s at ≡ None
+  number-none : length w ≡ 0 → None ≡ number_at s at
   unfolding number_at is_number
   number-none h = rw (h, and-false)
 
-  pub number_one : length w ≡ 1 → number_at s at ≡ Some ((digits_at s at).value, (digits_at s at).end)
-  unfolding number_at is_number
-  number_one h = rw (lead_digits (drop at s), h)
+  pub no_number : length s ≤ at → None ≡ number_at s at
+  no_number h = number-none (ap length (lead-ends s at h))
 
-  pub number-zero : 1 < length w → get_or s at 0 ≡ 0x30 → number_at s at ≡ None
-  unfolding number_at is_number
-  number-zero h z = rw (ne_eqb (length w) 1 (λ e. omega (arith, h, e)), lead_first s at (omega arith), z, and-false)
+  module _ (d : Digits) (read : d ≡ digits_at s at) where
+    end_is : d.end ≡ at + length w
+    end_is = ap (λ (r : Digits). r.end) read
 
-  pub number_more : 1 < length w → (get_or s at 0 ≡ 0x30 → ⊥) → number_at s at ≡ Some ((digits_at s at).value, (digits_at s at).end)
-  unfolding number_at is_number
-  number_more h z = rw (lead_digits (drop at s), le-leb 1 (length w) (omega arith), lead_first s at (omega arith), ne_eqb (get_or s at 0) 0x30 z, or-true)
+    found : is_number w ≡ true → Some (d.value, d.end) ≡ number_at s at
+    unfolding number_at
+    found h = rw (h, read)
+
+    pub no_digit : d.end ≡ at → None ≡ number_at s at
+    no_digit h = number-none (omega (arith, end_is))
+
+    pub zero_in_front : get_or s at 0 ≡ 0x30 → at + 1 < d.end → None ≡ number_at s at
+    unfolding number_at is_number
+    zero_in_front z h = rw (ne_eqb (length w) 1 (λ e. omega (arith, h, e, end_is)), lead_first s at (omega (arith, end_is)), z, and-false)
+
+    pub one_digit : d.end ≢ at → d.end ≤ at + 1 → Some (d.value, d.end) ≡ number_at s at
+    unfolding is_number
+    one_digit ne h = let one : length w ≡ 1 = omega (arith, end_is) in found (rw (lead_digits (drop at s), one))
+
+    pub no_zero : d.end ≢ at → get_or s at 0 ≢ 0x30 → Some (d.value, d.end) ≡ number_at s at
+    unfolding is_number
+    no_zero ne z =
+        found (rw (lead_digits (drop at s), le-leb 1 (length w) (omega (arith, end_is)), lead_first s at (omega (arith, end_is)), ne_eqb (get_or s at 0) 0x30 z, or-true))

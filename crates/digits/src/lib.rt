@@ -17,85 +17,71 @@ fn with_digit(v: u64, b: u8) -> u64
     requires { (v ≤ 4294967296) × (is_digit b ≡ true) }
     ensures { result ≡ min (10 * v + (b - 0x30)) 4294967296 }
 {
-    let more = 10 * v + ((b - b'0') as u64);
-    if more <= 4294967296 { more } else { 4294967296 }
+    (10 * v + u64::from(b - b'0')).min(4294967296)
 }
 
 // The digits from place `at` on.
-#[tactic(auto, using(crate::proofs::Reading::stops_below, crate::proofs::Reading::stops_above, crate::proofs::Reading::reading_starts))]
+#[tactic(auto, using(crate::proofs::Reading::reading_starts, crate::proofs::Reading::reading_on, crate::proofs::Reading::stops_before, crate::proofs::Reading::stops_at_end))]
 fn digits_at(s: &[u8], at: usize) -> Digits
     requires { at ≤ length s.now }
     ensures { result ≡ digits_at s.now at }
 {
-    let n = s.len();
-    let mut value: u64 = 0;
-    let mut end = at;
-    while end < n {
+    let mut value = 0;
+    for end in at..s.len() {
         let b = s[end];
-        if b < b'0' {
-            return Digits { value, end };
-        }
-        if b'9' < b {
+        if !b.is_ascii_digit() {
             return Digits { value, end };
         }
         value = with_digit(value, b);
-        end += 1;
     }
-    Digits { value, end }
+    Digits {
+        value,
+        end: s.len(),
+    }
 }
 
 // The same of the digits of a number.
+#[tactic(auto, using(crate::proofs::Reading::no_number, crate::proofs::Reading::no_digit, crate::proofs::Reading::zero_in_front, crate::proofs::Reading::one_digit, crate::proofs::Reading::no_zero))]
 pub fn number_at(s: &[u8], at: usize) -> Option<(u64, usize)>
     ensures { result ≡ number_at s.now at }
 {
     if s.len() <= at {
         return None;
     }
-    let d = digits_at(s, at);
-    let value = d.value;
-    let end = d.end;
+    let Digits { value, end } = digits_at(s, at);
     if end == at {
         return None;
     }
-    if end == at + 1 {
-        return Some((value, end));
-    }
     // a zero in front of another digit
-    if s[at] == b'0' {
+    if s[at] == b'0' && at + 1 < end {
         return None;
     }
     Some((value, end))
 }
 
-// How many digits n has.
+// How many digits n has: one for 0 too.
+#[tactic(auto, using(crate::proofs::Writing::length_power))]
 pub fn digits_in(n: u32) -> usize
     ensures { result ≡ length (decimal n) }
 {
-    let mut count: usize = 1;
-    let mut rest = n;
-    while 10 <= rest {
-        rest = rest / 10;
-        count += 1;
-    }
-    count
+    n.max(1).ilog10() as usize + 1
 }
 
 // The digits of n from place `at` up to place `end`, the last one first.
+#[tactic(auto, using(crate::proofs::Writing::writing_starts, crate::proofs::Writing::writing_on, crate::proofs::Writing::writing_ends))]
 fn put_digits(out: &mut [u8], at: usize, end: usize, n: u32)
     requires { (end ≡ at + length (decimal n)) × (end ≤ length out.old) }
     ensures { out.new ≡ overlaid out.old at (decimal n) }
 {
-    let mut i = end;
     let mut rest = n;
-    while 10 <= rest {
-        i -= 1;
-        out[i] = (0x30 + rest % 10) as u8;
-        rest = rest / 10;
+    for i in (at..end).rev() {
+        out[i] = b'0' + (rest % 10) as u8;
+        rest /= 10;
     }
-    out[at] = (0x30 + rest) as u8;
 }
 
 // The text of n from place `at` on, and where it ends; nothing, and `at`, where there is no room for it.
+#[tactic(auto, unfolding(crate::specs::Decimal::number_end, wire::specs::Bytes::fitted))]
 pub fn put_number(out: &mut [u8], at: usize, n: u32) -> usize
     ensures { (result ≡ number_end out.old at n) × (out.new ≡ fitted out.old at (decimal n)) }
 {

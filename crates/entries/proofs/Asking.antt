@@ -40,54 +40,54 @@ ok_of_both true b f g h = refl
 ok_of_both false true f g h = refl
 ok_of_both false false f g h = refl
 
-module _ (n p : ℕ) (q : TaskNo) (kind : ℕ) (x : CellNo) (spare y : ℕ) where
+module _ (n p : ℕ) (e : Entry) where
   abbrev Asks : Result Asked Refusal → Type 0
-  Asks a = asked_of n p (entry_by q kind x spare y) ≡ a
+  Asks a = asked_of n p e ≡ a
 
-  pub no-task : p ≤ q.0 → Asks (Err NoTask)
+  pub no-task : p ≤ e.task.0 → Asks (Err NoTask)
   unfolding asked_of
-  no-task h = rw (le-leb p q.0 h)
+  no-task h = rw (le-leb p e.task.0 h)
 
-  module _ (a : q.0 < p) where
-    pub no_kind : 4 < kind → Asks (Err NoKind)
+  module _ (a : e.task.0 < p) where
+    pub no_kind : 4 < e.kind → Asks (Err NoKind)
     unfolding asked_of
-    no_kind h = rw (lt-leb p q.0 a, lt-ltb 4 kind h)
+    no_kind h = rw (lt-leb p e.task.0 a, lt-ltb 4 e.kind h)
 
-    pub spare_set : kind ≤ 4 → spare ≢ 0 → Asks (Err NotZero)
+    pub spare_set : e.kind ≤ 4 → e.spare ≢ 0 → Asks (Err NotZero)
     unfolding asked_of nonzero
-    spare_set k h = rw (lt-leb p q.0 a, le-ltb 4 kind k, ne_eqb spare 0 h)
+    spare_set k h = rw (lt-leb p e.task.0 a, le-ltb 4 e.kind k, ne_eqb e.spare 0 h)
 
-    module _ (z : spare ≡ 0) where
-      pub load_value : kind ≡ 1 → y ≢ 0 → Asks (Err NotZero)
+    module _ (z : e.spare ≡ 0) where
+      pub load_value : e.kind ≡ 1 → e.value ≢ 0 → Asks (Err NotZero)
       unfolding asked_of nonzero
-      load_value k h = rw (lt-leb p q.0 a, k, eq-eqb spare 0 z, ne_eqb y 0 h)
+      load_value k h = rw (lt-leb p e.task.0 a, k, eq-eqb e.spare 0 z, ne_eqb e.value 0 h)
 
-      pub load_cell : kind ≡ 1 → y ≡ 0 → n ≤ x.0 → Asks (Err NoCell)
+      pub load_cell : e.kind ≡ 1 → e.value ≡ 0 → n ≤ e.cell.0 → Asks (Err NoCell)
       unfolding asked_of nonzero outside
-      load_cell k h c = rw (lt-leb p q.0 a, k, eq-eqb spare 0 z, eq-eqb y 0 h, le-leb n x.0 c)
+      load_cell k h c = rw (lt-leb p e.task.0 a, k, eq-eqb e.spare 0 z, eq-eqb e.value 0 h, le-leb n e.cell.0 c)
 
-      pub to_load : kind ≡ 1 → y ≡ 0 → x.0 < n → Asks (Ok (ToLoad x))
+      pub to_load : e.kind ≡ 1 → e.value ≡ 0 → e.cell.0 < n → Asks (Ok (ToLoad e.cell))
       unfolding asked_of nonzero outside
-      to_load k h c = rw (lt-leb p q.0 a, k, eq-eqb spare 0 z, eq-eqb y 0 h, lt-leb n x.0 c)
+      to_load k h c = rw (lt-leb p e.task.0 a, k, eq-eqb e.spare 0 z, eq-eqb e.value 0 h, lt-leb n e.cell.0 c)
 
-      pub store-cell : kind ≡ 2 → n ≤ x.0 → Asks (Err NoCell)
+      pub store-cell : e.kind ≡ 2 → n ≤ e.cell.0 → Asks (Err NoCell)
       unfolding asked_of nonzero outside
-      store-cell k c = rw (lt-leb p q.0 a, k, eq-eqb spare 0 z, le-leb n x.0 c)
+      store-cell k c = rw (lt-leb p e.task.0 a, k, eq-eqb e.spare 0 z, le-leb n e.cell.0 c)
 
-      pub to_store : kind ≡ 2 → x.0 < n → Asks (Ok (ToStore x y))
+      pub to_store : e.kind ≡ 2 → e.cell.0 < n → Asks (Ok (ToStore e.cell e.value))
       unfolding asked_of nonzero outside
-      to_store k c = rw (lt-leb p q.0 a, k, eq-eqb spare 0 z, lt-leb n x.0 c)
+      to_store k c = rw (lt-leb p e.task.0 a, k, eq-eqb e.spare 0 z, lt-leb n e.cell.0 c)
 
       -- a kind that names no cell
-      module _ (few : kind ≤ 4) (not-one : kind ≢ 1) (not-two : kind ≢ 2) where
-        pub cell_set : x.0 ≢ 0 → Asks (Err NotZero)
+      module _ (few : e.kind ≤ 4) (not-one : e.kind ≢ 1) (not-two : e.kind ≢ 2) where
+        pub cell_set : e.cell.0 ≢ 0 → Asks (Err NotZero)
         unfolding asked_of nonzero
-        cell_set h = rw (lt-leb p q.0 a, le-ltb 4 kind few, eq-eqb spare 0 z, ne_eqb kind 1 not-one, ne_eqb kind 2 not-two, ne_eqb x.0 0 h)
+        cell_set h = rw (lt-leb p e.task.0 a, le-ltb 4 e.kind few, eq-eqb e.spare 0 z, ne_eqb e.kind 1 not-one, ne_eqb e.kind 2 not-two, ne_eqb e.cell.0 0 h)
 
-        pub value_set : x.0 ≡ 0 → y ≢ 0 → Asks (Err NotZero)
+        pub value_set : e.cell.0 ≡ 0 → e.value ≢ 0 → Asks (Err NotZero)
         unfolding asked_of nonzero
-        value_set c h = rw (lt-leb p q.0 a, le-ltb 4 kind few, eq-eqb spare 0 z, ne_eqb kind 1 not-one, ne_eqb kind 2 not-two, eq-eqb x.0 0 c, ne_eqb y 0 h)
+        value_set c h = rw (lt-leb p e.task.0 a, le-ltb 4 e.kind few, eq-eqb e.spare 0 z, ne_eqb e.kind 1 not-one, ne_eqb e.kind 2 not-two, eq-eqb e.cell.0 0 c, ne_eqb e.value 0 h)
 
-        pub by_kind : x.0 ≡ 0 → y ≡ 0 → Asks (Ok (plain_of kind))
+        pub by_kind : e.cell.0 ≡ 0 → e.value ≡ 0 → Asks (Ok (plain_of e.kind))
         unfolding asked_of plain_of nonzero outside
-        by_kind c h = rw (lt-leb p q.0 a, le-ltb 4 kind few, eq-eqb spare 0 z, ne_eqb kind 1 not-one, ne_eqb kind 2 not-two, eq-eqb x.0 0 c, eq-eqb y 0 h) (ok_of_both (eqb kind 0) (eqb kind 3) ToGo ToRelease ToValidate)
+        by_kind c h = rw (lt-leb p e.task.0 a, le-ltb 4 e.kind few, eq-eqb e.spare 0 z, ne_eqb e.kind 1 not-one, ne_eqb e.kind 2 not-two, eq-eqb e.cell.0 0 c, eq-eqb e.value 0 h) (ok_of_both (eqb e.kind 0) (eqb e.kind 3) ToGo ToRelease ToValidate)

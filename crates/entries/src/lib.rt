@@ -6,7 +6,7 @@ ghost use Rattle.wire.specs.Bytes.{fitted};
 ghost use Rattle.entries.specs.Entry.{entry_of, entry_bytes};
 ghost use Rattle.tasks.specs.Phases.{resting};
 ghost use Rattle.entries.specs.Order.{begins, load_of, linked_to, store_of, linked_call_of, order_of};
-ghost use Rattle.entries.specs.Asking.{entry_by, plain_of, asked_of};
+ghost use Rattle.entries.specs.Asking.{plain_of, asked_of};
 
 use answers::{Refusal, Reply};
 use steps::{Deed, Effect, Seen, Write};
@@ -32,13 +32,12 @@ pub fn read_entry(s: &[u8]) -> Result<Entry, Refusal>
     if !wire::starts_with(s, wire::ENTRY) {
         return Err(Refusal::WrongMark);
     }
-    let y = wire::word_at(s, 6);
     Ok(Entry {
         task: TaskNo(s[2]),
         kind: s[3],
         cell: CellNo(s[4]),
         spare: s[5],
-        value: y,
+        value: wire::word_at(s, 6),
     })
 }
 
@@ -80,52 +79,44 @@ fn plain(kind: u8) -> Asked
     }
 }
 
-// What an entry asks, or the first refusal that its own numbers give: 12, 13, 15 and 14, for n cells and p tasks. The entry comes in its parts, and each kind has its own tests: so a run is quicker.
+// What an entry asks, or the first refusal that its own numbers give: 12, 13, 15 and 14, for n cells and p tasks. Each kind has its own tests: so a run is quicker.
 #[tactic(auto, unfolding(crate::specs::Asking::asked_of, crate::specs::Asking::plain_of, crate::specs::Entry::nonzero, crate::specs::Entry::outside))]
-pub fn asks(
-    n: u8,
-    p: u8,
-    q: TaskNo,
-    kind: u8,
-    x: CellNo,
-    spare: u8,
-    y: u32,
-) -> Result<Asked, Refusal>
-    ensures { result ≡ asked_of n p (entry_by q kind x spare y) }
+pub fn asks(n: u8, p: u8, e: Entry) -> Result<Asked, Refusal>
+    ensures { result ≡ asked_of n p e }
 {
-    if p <= q.0 {
+    if p <= e.task.0 {
         return Err(Refusal::NoTask);
     }
-    if 4 < kind {
+    if 4 < e.kind {
         return Err(Refusal::NoKind);
     }
-    if spare != 0 {
+    if e.spare != 0 {
         return Err(Refusal::NotZero);
     }
-    match kind {
+    match e.kind {
         1 => {
-            if y != 0 {
+            if e.value != 0 {
                 return Err(Refusal::NotZero);
             }
-            if n <= x.0 {
+            if n <= e.cell.0 {
                 return Err(Refusal::NoCell);
             }
-            Ok(Asked::ToLoad(x))
+            Ok(Asked::ToLoad(e.cell))
         }
         2 => {
-            if n <= x.0 {
+            if n <= e.cell.0 {
                 return Err(Refusal::NoCell);
             }
-            Ok(Asked::ToStore(x, y))
+            Ok(Asked::ToStore(e.cell, e.value))
         }
         _ => {
-            if x.0 != 0 {
+            if e.cell.0 != 0 {
                 return Err(Refusal::NotZero);
             }
-            if y != 0 {
+            if e.value != 0 {
                 return Err(Refusal::NotZero);
             }
-            Ok(plain(kind))
+            Ok(plain(e.kind))
         }
     }
 }
@@ -157,19 +148,13 @@ pub fn load(t: Task, x: CellNo) -> Effect
 fn resting(phase: u8) -> bool
     ensures { result ≡ resting phase }
 {
-    if phase == 0 {
-        return true;
-    }
-    phase == 6
+    phase == 0 || phase == 6
 }
 
 fn linked_to(t: Task, x: CellNo) -> bool
     ensures { result ≡ linked_to t x }
 {
-    if t.phase != 6 {
-        return false;
-    }
-    t.cell.0 == x.0
+    t.phase == 6 && t.cell == x
 }
 
 // Without a link on its cell a store is figure 1's false, at once: the task's record is handed back as it is.
@@ -206,9 +191,7 @@ pub fn linked_call(t: Task, c: Call) -> Effect
 pub fn order(n: u8, p: u8, e: Entry, t: Task, s: Seen) -> Effect
     ensures { result ≡ order_of n p e t s }
 {
-    let q = e.task;
-    let x = e.cell;
-    match asks(n, p, q, e.kind, x, e.spare, e.value)? {
+    match asks(n, p, e)? {
         Asked::ToGo => steps::step(t, s),
         Asked::ToLoad(x) => load(t, x),
         Asked::ToStore(x, y) => store(t, x, y),

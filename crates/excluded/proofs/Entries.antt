@@ -9,7 +9,7 @@ use Rattle.tasks.specs.declared.Task.{Task}
 use Rattle.tasks.specs.Records.{cell_no}
 use Rattle.steps.specs.Types.{Effect}
 use Rattle.entries.specs.declared.Asked.{Asked}
-use Rattle.entries.specs.Asking.{asked_of}
+use Rattle.entries.specs.Asking.{entry_by, asked_of}
 use Rattle.entries.specs.Entry.{nonzero, outside}
 use Rattle.entries.specs.Order.{load_of, store_of, linked_call_of}
 use Rattle.entries.proofs.asks.Reads as asks
@@ -24,7 +24,7 @@ module _ (z : Result Asked Refusal) where
   -- what an entry of task q, a kind, cell x, a spare byte and value y asks, in a machine of 1 cell and 2 tasks
   abbrev Asks : ℕ → ℕ → ℕ → ℕ → ℕ → Type 0
   Asks q kind x spare y =
-      asks.Post tt (1, (2, (record { 0 = q }, (kind, (cell_no x, (spare, (y, tt))))))) z (1, (2, (record { 0 = q }, (kind, (cell_no x, (spare, (y, tt)))))))
+      let e = entry_by (record { 0 = q }) kind (cell_no x) spare y in asks.Post tt (1, (2, (e, tt))) z (1, (2, (e, tt)))
 
   -- 15 for an entry of kind 5 whose spare byte isn't zero: 13 is due
   pub fifteen_for_thirteen : Asks 0 5 0 1 0 → fault_found z ≡ 15 → ⊥

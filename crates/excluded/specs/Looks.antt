@@ -1,6 +1,6 @@
 -- One number of an answer that has many, so that a wrong answer can be named by it.
 use Rattle.std.specs.Prelude.{ℕ, get_or, set, Result, Ok, Err}
-use Rattle.answers.specs.Numbers.{refusal_number, number_of, value_of}
+use Rattle.answers.specs.Numbers.{refusal_number, refusal_or_0, number_of, value_of}
 use Rattle.tasks.specs.declared.Task.{Task}
 use Rattle.tasks.specs.Records.{no_task}
 use Rattle.steps.specs.Types.{Effect}
@@ -54,20 +54,15 @@ free_left e = free_by (write_by e) 2
 
 -- the refusal that an entry's own numbers give, 0 if none
 abbrev pub fault_found : Result Asked Refusal → ℕ
-fault_found ToGo = 0
-fault_found (ToLoad x) = 0
-fault_found (ToStore x y) = 0
-fault_found ToRelease = 0
-fault_found ToValidate = 0
-fault_found (Err r) = refusal_number r
+fault_found a = refusal_or_0 a
 
 -- the kind of what it asks for, 5 if it is refused
 abbrev pub kind_asked : Result Asked Refusal → ℕ
-kind_asked ToGo = 0
-kind_asked (ToLoad x) = 1
-kind_asked (ToStore x y) = 2
-kind_asked ToRelease = 3
-kind_asked ToValidate = 4
+kind_asked (Ok ToGo) = 0
+kind_asked (Ok (ToLoad x)) = 1
+kind_asked (Ok (ToStore x y)) = 2
+kind_asked (Ok ToRelease) = 3
+kind_asked (Ok ToValidate) = 4
 kind_asked (Err r) = 5
 
 -- the report of an outcome: of a refused setup its refusal, and no entries

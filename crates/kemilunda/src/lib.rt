@@ -52,7 +52,7 @@ pub fn kemilunda_run_free(
     ensures { (result ≡ setup_refusal input.now) × (replies.new ≡ replies_after input.now replies.old) × (free_nodes.new ≡ free_nodes_after input.now (length replies.old) free_nodes.old) × (numbers.new ≡ numbers_after input.now (length replies.old) numbers.old) }
 {
     match runs::run_input(input, replies, free_nodes) {
-        Err(r) => answers::refusal_number(r) as u32,
+        Err(r) => u32::from(u8::from(r)),
         Ok(report) => {
             *numbers = six(report);
             0

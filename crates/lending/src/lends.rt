@@ -1,4 +1,4 @@
-// The two places where this program makes a reference to a record.
+// The two places where this program lends records to the library.
 ghost use Rattle.std.specs.Prelude.{◌≡◌, ◌<◌, ◌≤◌, get_or, set, take};
 ghost use Rattle.tasks.specs.Records.{no_task};
 ghost use Rattle.tasks.specs.Calls.{begun_of};
@@ -7,19 +7,17 @@ ghost use Rattle.tasks.specs.Holders.{holders_of};
 use tasks::{Call, NodeNo, Task};
 
 // One record of a row is lent to `begin` where it lies; its neighbours are not.
-pub(crate) fn start_at(ts: [Task; 4], i: usize, c: Call) -> [Task; 4]
+pub(crate) fn start_at(ts: &mut [Task; 4], i: usize, c: Call)
     requires { i < 4 }
-    ensures { result ≡ set ts i (begun_of (get_or ts i no_task) c) }
+    ensures { ts.new ≡ set ts.old i (begun_of (get_or ts.old i no_task) c) }
 {
-    let mut us = ts;
-    tasks::begin(&mut us[i], c);
-    us
+    tasks::begin(&mut ts[i], c);
 }
 
 // The first n records of a row are lent to `holders`. Seventeen is one more than a list may have.
-pub(crate) fn ask(ts: [Task; 17], n: usize, node: NodeNo) -> Option<usize>
+pub(crate) fn ask(ts: &[Task; 17], n: usize, node: NodeNo) -> Option<usize>
     requires { n ≤ 17 }
-    ensures { result ≡ holders_of (take n ts) node }
+    ensures { result ≡ holders_of (take n ts.now) node }
 {
     tasks::holders(&ts[..n], node)
 }

@@ -1,52 +1,37 @@
-// A line of text: a label, a colon, numbers with single spaces.
-use std::io;
+// What a line says of a record and of an answer: numbers with single spaces.
+use std::fmt;
 use tasks::Task;
 
-// A space, then a number.
-fn number(rt: &impl Print, n: u64) -> io::Result<()> {
-    print!(rt; " {n}")
-}
-
-fn fields(rt: &impl Print, t: Task) -> io::Result<()> {
-    number(rt, t.phase as u64)?;
-    number(rt, t.cell.0 as u64)?;
-    number(rt, t.value as u64)?;
-    number(rt, t.held.0 as u64)?;
-    number(rt, t.own.0 as u64)?;
-    number(rt, t.cursor.0 as u64)?;
-    println!(rt;)
-}
-
 // A record, by its six fields.
-pub(crate) fn record(rt: &impl Print, label: &str, t: Task) -> io::Result<()> {
-    print!(rt; "{label}:")?;
-    fields(rt, t)
-}
+#[derive(Clone, Copy)]
+pub(crate) struct Fields(pub Task);
 
-// Record i of a row.
-pub(crate) fn row_record(rt: &impl Print, label: &str, i: u64, t: Task) -> io::Result<()> {
-    print!(rt; "{label}, record")?;
-    number(rt, i)?;
-    print!(rt; ":")?;
-    fields(rt, t)
-}
-
-fn numbers(rt: &impl Print, h: Option<usize>) -> io::Result<()> {
-    print!(rt; ":")?;
-    number(rt, tasks::holders_number(h) as u64)?;
-    number(rt, tasks::holders_value(h) as u64)?;
-    println!(rt;)
+impl fmt::Display for Fields {
+    fn fmt<W: fmt::Write>(&self, f: &mut fmt::Formatter<W>) -> fmt::Result {
+        let Task {
+            phase,
+            cell,
+            value,
+            held,
+            own,
+            cursor,
+        } = self.0;
+        write!(
+            f,
+            "{phase} {} {value} {} {} {}",
+            cell.0, held.0, own.0, cursor.0
+        )
+    }
 }
 
 // The answer to a holders question: its number and its value.
-pub(crate) fn answer(rt: &impl Print, label: &str, h: Option<usize>) -> io::Result<()> {
-    print!(rt; "{label}")?;
-    numbers(rt, h)
-}
+#[derive(Clone, Copy)]
+pub(crate) struct Holders(pub Option<usize>);
 
-// The same, with the phase as the label.
-pub(crate) fn phase_answer(rt: &impl Print, phase: u8, h: Option<usize>) -> io::Result<()> {
-    print!(rt; "phase")?;
-    number(rt, phase as u64)?;
-    numbers(rt, h)
+impl fmt::Display for Holders {
+    fn fmt<W: fmt::Write>(&self, f: &mut fmt::Formatter<W>) -> fmt::Result {
+        let number = tasks::holders_number(self.0);
+        let value = tasks::holders_value(self.0);
+        write!(f, "{number} {value}")
+    }
 }

@@ -133,7 +133,7 @@ fn run_entries(m: &mut Machine, s: &[u8], out: &mut [u8], free_nodes: &mut [u8])
         let e = match entries::read_entry(bytes) {
             Ok(e) => e,
             Err(r) => {
-                let number = answers::refusal_number(r);
+                let number = u8::from(r);
                 reply(out, i, number, 0, 0);
                 note(free_nodes, i, m);
                 return stopped(report, number);
@@ -156,7 +156,7 @@ fn run_entries(m: &mut Machine, s: &[u8], out: &mut [u8], free_nodes: &mut [u8])
 fn untried(r: Refusal) -> Report
     ensures { result ≡ report_of (refusal_number r) }
 {
-    no_report(answers::refusal_number(r))
+    no_report(u8::from(r))
 }
 
 // A run of a lent machine: 22 by ranges, 23 and 21 come before any entry, in that order. Each entry tried leaves its number of free nodes, while there is room.

@@ -7,161 +7,111 @@ use cells::Machine;
 use runs::Report;
 use std::io;
 
-// The text is laid into a buffer that holds the longest one, a byte, a word or a number at a time. Each function answers where it ends.
+// Text that is laid into a buffer and printed at once: by `Display` it takes a fifth longer. There is room for the longest; what has none is left out.
+#[derive(Drop)]
+struct Text {
+    bytes: [u8; 160000],
+    end: usize,
+    ghost within: { end ≤ length bytes },
+}
 
-fn put_bytes(text: &mut [u8], at: usize, s: &[u8]) -> usize
-    requires { at ≤ length text.old }
-    ensures { result ≤ length text.new }
-{
-    let mut end = at;
-    let mut i = 0;
-    while i < s.len() {
-        if text.len() <= end {
-            return end;
+impl Text {
+    fn as_bytes(&self) -> &[u8] {
+        &self.bytes[..self.end]
+    }
+
+    fn put(&mut self, s: &[u8]) {
+        for b in s {
+            if self.end < self.bytes.len() {
+                self.bytes[self.end] = *b;
+                self.end += 1;
+            }
         }
-        text[end] = s[i];
-        end += 1;
-        i += 1;
     }
-    end
-}
 
-#[tactic(auto, using(wire::proofs::Laws::lengths, digits::proofs::Writing::end_within))]
-fn put_number(text: &mut [u8], at: usize, n: u32) -> usize
-    requires { at ≤ length text.old }
-    ensures { result ≤ length text.new }
-{
-    digits::put_number(text, at, n)
-}
-
-// A word, then a number.
-fn put_field(text: &mut [u8], at: usize, word: &[u8], n: u32) -> usize
-    requires { at ≤ length text.old }
-    ensures { result ≤ length text.new }
-{
-    let end = put_bytes(text, at, word);
-    put_number(text, end, n)
-}
-
-fn put_heading(text: &mut [u8], n: u8, p: u8, k: u8) -> usize
-    ensures { result ≤ length text.new }
-{
-    let a = put_field(text, 0, b"cells ", n as u32);
-    let b = put_field(text, a, b" tasks ", p as u32);
-    let c = put_field(text, b, b" nodes ", k as u32);
-    put_bytes(text, c, b"\n")
-}
-
-// The line of entry i + 1, from the i-th reply: task, number, value.
-fn put_line(text: &mut [u8], at: usize, i: u32, replies: &[u8]) -> usize
-    requires { (at ≤ length text.old) × (i ≤ 65535) }
-    ensures { result ≤ length text.new }
-{
-    let from = 8 * i;
-    let number = wire::byte_at(replies, (from + 2) as usize);
-    let task = wire::byte_at(replies, (from + 3) as usize);
-    let value = wire::word_at(replies, from + 4);
-    let a = put_number(text, at, i + 1);
-    let b = put_field(text, a, b" ", task as u32);
-    let c = put_field(text, b, b" ", number as u32);
-    let d = put_field(text, c, b" ", value);
-    put_bytes(text, d, b"\n")
-}
-
-fn put_lines(text: &mut [u8], at: usize, count: u32, replies: &[u8]) -> usize
-    requires { (at ≤ length text.old) × (count ≤ 65535) }
-    ensures { result ≤ length text.new }
-{
-    let mut end = at;
-    let mut i: u32 = 0;
-    while i < count {
-        end = put_line(text, end, i, replies);
-        i += 1;
+    #[tactic(auto, using(wire::proofs::Laws::lengths, digits::proofs::Writing::end_within))]
+    fn number(&mut self, n: u32) {
+        self.end = digits::put_number(&mut self.bytes, self.end, n);
     }
-    end
-}
 
-// The last four of the six numbers.
-fn put_counts(text: &mut [u8], at: usize, r: Report) -> usize
-    requires { at ≤ length text.old }
-    ensures { result ≤ length text.new }
-{
-    let a = put_field(text, at, b" ", r.loads);
-    let b = put_field(text, a, b" ", r.load_steps);
-    let c = put_field(text, b, b" ", r.turned_back as u32);
-    put_field(text, c, b" ", r.swaps)
-}
-
-fn put_end(text: &mut [u8], at: usize, r: Report) -> usize
-    requires { at ≤ length text.old }
-    ensures { result ≤ length text.new }
-{
-    let a = put_field(text, at, b"end ", r.accepted);
-    let b = put_field(text, a, b" ", r.refusal as u32);
-    let c = put_counts(text, b, r);
-    put_bytes(text, c, b"\n")
-}
-
-// How many replies a run wrote: one an accepted entry, and one for the entry that was refused. Refusals 21 and 23 are no entry's; 22 by the ranges can't come, as the record is fresh.
-fn replies_in(r: Report) -> u32
-    ensures { result ≤ 65535 }
-{
-    let n = r.accepted;
-    let refusal = r.refusal;
-    if 6553 < n {
-        return 0;
+    // A word, then a number.
+    fn field(&mut self, word: &[u8], n: u32) {
+        self.put(word);
+        self.number(n);
     }
-    match refusal {
-        0 => n,
-        21 => n,
-        23 => n,
+}
+
+// What a report has for no refusal, and for the two of a whole schedule. The others are an entry's; 22 by the ranges can't come, as the record is fresh.
+const TAKEN: u8 = 0;
+
+const NO_ROOM: u8 = 21;
+
+const TOO_LONG: u8 = 23;
+
+// How many replies a run wrote: one an accepted entry, and one for the entry that was refused.
+fn replies_in(r: Report) -> usize {
+    let n = r.accepted as usize;
+    match r.refusal {
+        TAKEN | NO_ROOM | TOO_LONG => n,
         _ => n + 1,
     }
 }
 
-fn bench(machine: Machine, schedule: &[u8], text: &mut [u8]) -> usize
-    ensures { result ≤ length text.new }
-{
+// Entry i + 1 has a line of task, number and value, from the i-th reply.
+fn bench(machine: Machine, schedule: &[u8], text: &mut Text) {
     let mut replies = [0u8; 52424];
-    let ran = runs::run(machine, schedule, &mut replies);
-    let report = ran.report;
-    let a = put_heading(text, machine.n, machine.p, machine.k);
-    let b = put_lines(text, a, replies_in(report), &replies);
-    put_end(text, b, report)
-}
-
-fn refused(number: u8, text: &mut [u8]) -> usize
-    ensures { result ≤ length text.new }
-{
-    let a = put_field(text, 0, b"setup ", number as u32);
-    put_bytes(text, a, b"\n")
+    let report = runs::run(machine, schedule, &mut replies).report;
+    text.field(b"cells ", machine.n as u32);
+    text.field(b" tasks ", machine.p as u32);
+    text.field(b" nodes ", machine.k as u32);
+    text.put(b"\n");
+    let count = replies_in(report);
+    for (i, reply) in (1..).zip(replies.chunks_exact(8).take(count)) {
+        let number = wire::byte_at(reply, 2);
+        let task = wire::byte_at(reply, 3);
+        let value = wire::word_at(reply, 4);
+        text.number(i);
+        text.field(b" ", task as u32);
+        text.field(b" ", number as u32);
+        text.field(b" ", value);
+        text.put(b"\n");
+    }
+    let Report {
+        accepted,
+        refusal,
+        loads,
+        load_steps,
+        turned_back,
+        swaps,
+    } = report;
+    text.field(b"end ", accepted);
+    for n in [refusal as u32, loads, load_steps, turned_back, swaps] {
+        text.field(b" ", n);
+    }
+    text.put(b"\n");
 }
 
 // The text for the bytes of a setup and a schedule.
 #[tactic(auto, using(cells::proofs::Setups::setup_uses))]
-fn answered(input: &[u8], text: &mut [u8]) -> usize
-    ensures { result ≤ length text.new }
-{
+fn answer(input: &[u8], text: &mut Text) {
     let s = Machine::setup(input);
-    let answer = s.answer;
-    let machine = s.machine;
-    match answer {
-        Err(r) => refused(answers::refusal_number(r), text),
-        Ok(used) => bench(machine, &input[used..], text),
+    match s.answer {
+        Err(r) => {
+            text.field(b"setup ", u8::from(r) as u32);
+            text.put(b"\n");
+        }
+        Ok(used) => bench(s.machine, &input[used..], text),
     }
-}
-
-fn print(rt: &impl Print, text: &[u8], end: usize) -> io::Result<()>
-    requires { end ≤ length text.now }
-{
-    rt.write_all(&text[..end])
 }
 
 // The longest setup has 262 bytes, and a schedule of 65,531 is the shortest that is too long.
 fn main(rt: HostRuntime) -> io::Result<()> {
     let mut input = [0u8; 65793];
     let n = streams::read_full(&mut rt.reader(), &mut input)?;
-    let mut text = [0u8; 160000];
-    let end = answered(&input[..n], &mut text);
-    print(&rt, &text, end)
+    let mut text = Text {
+        bytes: [0; 160000],
+        end: 0,
+    };
+    answer(&input[..n], &mut text);
+    rt.write_all(text.as_bytes())
 }

@@ -61,7 +61,7 @@ pub fn next_node(k: u8, v: NodeNo) -> NodeNo
 fn free_one(count: u8) -> u16
     ensures { result ≡ bit (eqb count 0) }
 {
-    if count == 0 { 1 } else { 0 }
+    u16::from(count == 0)
 }
 
 // Every write of a count is made here, and with it the number of free nodes: node v's count goes from one number to another.
@@ -89,10 +89,7 @@ pub fn raised(s: Seen, v: NodeNo, count: u8) -> Counted
     if s.tasks < count {
         return Err(Refusal::Damaged);
     }
-    if count == 255 {
-        return Err(Refusal::Damaged);
-    }
-    let up = count + 1;
+    let up = count.checked_add(1).ok_or(Refusal::Damaged)?;
     recounted(s, v, count, up)
 }
 
@@ -101,10 +98,7 @@ pub fn raised(s: Seen, v: NodeNo, count: u8) -> Counted
 pub fn lowered(s: Seen, v: NodeNo, count: u8) -> Counted
     ensures { result ≡ lowered_of s v count }
 {
-    if count == 0 {
-        return Err(Refusal::Damaged);
-    }
-    let left = count - 1;
+    let left = count.checked_sub(1).ok_or(Refusal::Damaged)?;
     recounted(s, v, count, left)
 }
 

@@ -22,7 +22,7 @@ abbrev pub task_in : List Task → TaskNo → Task
 task_in tasks p = get_or tasks p.0 no_task
 
 -- l with y at i, where i is below n
-unfoldable pub put_in : ℕ → List ℕ → ℕ → ℕ → List ℕ
+unfoldable pub put_in : {A : Type 0} → ℕ → List A → ℕ → A → List A
 put_in n l i y = cond (ltb i n) (set l i y) l
 
 -- N cells, 1 to 64; P tasks, 1 to 16; K nodes, at least N+2P, at most 128

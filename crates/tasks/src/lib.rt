@@ -1,8 +1,9 @@
 // A task's record, the three kinds of number, and the two places where records are lent: starting a call, and the holders question.
 #![tactic(auto)]
 
-ghost use Rattle.std.specs.Prelude.{◌≡◌, ◌≤◌, take};
-ghost use Rattle.tasks.specs.Records.{with_fields, idle_owning, onward, holding, owning, probing, task_ok};
+ghost use Rattle.std.specs.Prelude.{◌≡◌, ◌&&◌, eqb};
+ghost use Rattle.tasks.specs.Phases.{holds};
+ghost use Rattle.tasks.specs.Records.{idle_owning, onward, holding, owning, probing, task_ok};
 ghost use Rattle.tasks.specs.Calls.{begun_of};
 ghost use Rattle.tasks.specs.Holders.{keeps, beyond_of, holders_of, held_among, holders_number, holders_value};
 
@@ -36,78 +37,50 @@ pub enum Call {
     Validate,
 }
 
-// A record of these fields. The functions below make theirs here: a copy that is changed in one field would be made byte by byte, which takes longer.
-fn with_fields(
-    phase: u8,
-    cell: CellNo,
-    value: u32,
-    held: NodeNo,
-    own: NodeNo,
-    cursor: NodeNo,
-) -> Task
-    ensures { result ≡ with_fields phase cell value held own cursor }
-{
-    Task {
-        phase,
-        cell,
-        value,
-        held,
-        own,
-        cursor,
-    }
-}
-
 // The record of an idle task that owns node v.
 pub fn idle_owning(v: NodeNo) -> Task
     ensures { result ≡ idle_owning v }
 {
-    with_fields(0, CellNo(0), 0, NodeNo(0), v, NodeNo(0))
+    Task {
+        phase: 0,
+        cell: CellNo(0),
+        value: 0,
+        held: NodeNo(0),
+        own: v,
+        cursor: NodeNo(0),
+    }
 }
 
 impl Task {
     pub fn onward(self, phase: u8) -> Task
         ensures { result ≡ onward self phase }
     {
-        with_fields(
-            phase,
-            self.cell,
-            self.value,
-            self.held,
-            self.own,
-            self.cursor,
-        )
+        Task { phase, ..self }
     }
 
-    pub fn holding(self, v: NodeNo) -> Task
-        ensures { result ≡ holding self v }
+    pub fn holding(self, held: NodeNo) -> Task
+        ensures { result ≡ holding self held }
     {
-        with_fields(self.phase, self.cell, self.value, v, self.own, self.cursor)
+        Task { held, ..self }
     }
 
-    pub fn owning(self, v: NodeNo) -> Task
-        ensures { result ≡ owning self v }
+    pub fn owning(self, own: NodeNo) -> Task
+        ensures { result ≡ owning self own }
     {
-        with_fields(self.phase, self.cell, self.value, self.held, v, self.cursor)
+        Task { own, ..self }
     }
 
-    pub fn probing(self, v: NodeNo) -> Task
-        ensures { result ≡ probing self v }
+    pub fn probing(self, cursor: NodeNo) -> Task
+        ensures { result ≡ probing self cursor }
     {
-        with_fields(self.phase, self.cell, self.value, self.held, self.own, v)
+        Task { cursor, ..self }
     }
 
-    // The same record, made anew.
+    // The same record, made anew of its fields: `self` as it is goes over byte by byte, the gaps between them too.
     pub fn copied(self) -> Task
         ensures { result ≡ self }
     {
-        with_fields(
-            self.phase,
-            self.cell,
-            self.value,
-            self.held,
-            self.own,
-            self.cursor,
-        )
+        Task { ..self }
     }
 
     // The part of refusal 22's ranges that concerns one record, for n cells and k nodes.
@@ -115,22 +88,19 @@ impl Task {
     pub fn in_range(self, n: u8, k: u8) -> bool
         ensures { result ≡ task_ok n k self }
     {
-        if 15 < self.phase {
-            return false;
-        }
-        if self.phase == 10 {
-            return false;
-        }
-        if n <= self.cell.0 {
-            return false;
-        }
-        if k <= self.held.0 {
-            return false;
-        }
-        if k <= self.own.0 {
-            return false;
-        }
-        self.cursor.0 < k
+        self.phase <= 15
+            && self.phase != 10
+            && self.cell.0 < n
+            && self.held.0 < k
+            && self.own.0 < k
+            && self.cursor.0 < k
+    }
+
+    // Whether the task holds the node, by its m.
+    fn holds(self, node: NodeNo) -> bool
+        ensures { result ≡ (holds self.phase && eqb self.held.0 node.0) }
+    {
+        matches!(self.phase, 3..=9 | 11 | 13..=15) && self.held == node
     }
 }
 
@@ -178,20 +148,7 @@ pub fn lent_begin(t: Task, c: Call) -> Task
 pub fn holds_one(t: Task, node: NodeNo) -> usize
     ensures { result ≡ keeps node.0 t }
 {
-    let p = t.phase;
-    if p < 3 {
-        return 0;
-    }
-    if 15 < p {
-        return 0;
-    }
-    if p == 10 {
-        return 0;
-    }
-    if p == 12 {
-        return 0;
-    }
-    if t.held.0 == node.0 { 1 } else { 0 }
+    usize::from(t.holds(node))
 }
 
 // Refusal 24: a list of n records is too long, or there is no such node in any pool.
@@ -202,27 +159,14 @@ pub fn beyond(n: usize, node: NodeNo) -> bool
 }
 
 // The holders question: how many of the lent task records hold the node; none if it is refused, which is number 24.
+#[tactic(auto, using(crate::proofs::Answer::holders_counted), unfolding(crate::specs::Holders::holders_of))]
 pub fn holders(ts: &[Task], node: NodeNo) -> Option<usize>
     ensures { result ≡ holders_of ts.now node }
 {
     if beyond(ts.len(), node) {
         return None;
     }
-    let mut n = 0;
-    let mut i = 0;
-    while i < ts.len() {
-        n = n + holds_one(ts[i], node);
-        i = i + 1;
-    }
-    Some(n)
-}
-
-// The bridge to `holders`: the first p records of a copy are lent.
-fn lent_holders(ts: [Task; 16], p: usize, node: NodeNo) -> Option<usize>
-    requires { p ≤ 16 }
-    ensures { result ≡ holders_of (take p ts) node }
-{
-    holders(&ts[..p], node)
+    Some(ts.iter().filter(|t| t.holds(node)).count())
 }
 
 // The holders question of the first p records of a table; a table of more than 16 is refused as such a list is.
@@ -230,10 +174,7 @@ fn lent_holders(ts: [Task; 16], p: usize, node: NodeNo) -> Option<usize>
 pub fn held_among(ts: [Task; 16], p: u8, node: NodeNo) -> Option<usize>
     ensures { result ≡ held_among ts p node }
 {
-    if 16 < p {
-        return None;
-    }
-    lent_holders(ts, p as usize, node)
+    holders(ts.get(..p as usize)?, node)
 }
 
 pub fn holders_number(h: Option<usize>) -> u8

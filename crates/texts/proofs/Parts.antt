@@ -1,13 +1,14 @@
 -- A text parted at a byte: what stands before it and what follows. Assumes nothing.
-use Prim.Native.Nat.{ℕ, suc, ◌+◌, ◌≤◌, ◌<◌}
+use Prim.Native.Nat.{ℕ, ◌+◌, ◌≤◌, ◌<◌}
 use native.Mathlib.Omega.{arith}
 use native.Mathlib.Decide.{ℕ_discrete}
 use mathlib.Core.Path.{◌≡◌, refl, ap}
 use mathlib.Core.Logic.{◌≢◌, ◌⊎◌, inl, inr}
 use mathlib.Core.Bool.{true}
+use Rattle.std.specs.List.{sum_by}
+use Rattle.std.proofs.lemmas.List.Recursion.{is_sum_by}
 use mathlib.Core.List.{List, [], ◌∷◌, ◌++◌}
-use lib.ListN.{length, get_or, drop, drop_of_length-le}
-use lib.Seq.{drop-cons}
+use lib.ListN.{length}
 use lib.Dec.{eqb}
 use borrow.Author.Tests.{eq-eqb, ne_eqb}
 use Rattle.tallies.specs.Tally.{bit}
@@ -97,11 +98,7 @@ unfolding newlines
 newlines-append [] w = omega arith
 newlines-append (c ∷ v) w = omega (arith, newlines-append v w)
 
--- those from a place on: one more, or none
-pub newlines-next : (t : List ℕ) (i : ℕ) → i < length t → newlines (drop i t) ≡ bit (eqb (get_or t i 0) newline) + newlines (drop (i + 1) t)
+-- they are a sum
+pub newlines_sum : (t : List ℕ) → newlines t ≡ sum_by (λ c. bit (eqb c newline)) t
 unfolding newlines
-newlines-next t i h = let e : i + 1 ≡ suc i = omega arith in rw (drop-cons t i 0 h, e)
-
-pub newlines-none : (t : List ℕ) (i : ℕ) → length t ≤ i → newlines (drop i t) ≡ 0
-unfolding newlines
-newlines-none t i h = rw (drop_of_length-le t h)
+newlines_sum = is_sum_by newlines (λ c. bit (eqb c newline)) refl (λ c t. refl)

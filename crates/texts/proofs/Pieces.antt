@@ -1,38 +1,35 @@
 -- One piece at a place of the input: a line, or an entry, is bad and decides, or gives its bytes in front of what the rest gives. Assumes nothing.
 use Rattle.std.specs.Prelude.{Result, Ok, Err}
-use Prim.Native.Nat.{ℕ, suc, ◌+◌, ◌-◌, ◌≤◌, ◌<◌}
+use Prim.Native.Nat.{ℕ, suc, ◌+◌, ◌≤◌, ◌<◌, min}
 use native.Mathlib.Omega.{arith}
 use native.Mathlib.Decide.{dec_lt}
 use mathlib.Core.Path.{◌≡◌, refl, sym, ap, subst, ◌∙◌}
 use mathlib.Core.Logic.{inl, inr}
 use mathlib.Core.Bool.{Bool, true, false, cond, ◌&&◌}
 use mathlib.Core.List.{List, [], ◌∷◌, ◌++◌, append_assoc}
-use lib.ListN.{length, take, drop, length-append, length-drop, take-append-drop}
-use lib.Seq.{drop-drop, drop-append-add, length-take-le}
-use lib.Dec.{eqb}
+use lib.ListN.{length, drop, length-append, length-drop}
+use lib.Seq.{drop-drop, drop-append-add}
 use borrow.Author.Tests.{lt-ltb}
-use Rattle.tallies.proofs.Lists.{part}
 use Rattle.wire.specs.Bytes.{overlaid}
-use Rattle.wire.proofs.Laws.{over-length, over_four}
+use Rattle.wire.proofs.Laws.{over-length, over-set, over_four}
 use Rattle.digits.specs.Decimal.{decimal}
+use Rattle.digits.proofs.Laws.{word-length}
 use Rattle.entries.specs.Entry.{entry_of, entry_bytes}
-use Rattle.entries.proofs.Laws.{entry_front}
-use Rattle.texts.specs.Types.{NotALine, TooLarge, NotZero, TooShort, Entry}
+use Rattle.texts.specs.Types.{Refusal, NotALine, TooLarge, TooShort, Entry}
 use Rattle.texts.specs.Line.{comma, newline, up_to, past, is_line, fits, entry_in, line_of}
 use Rattle.texts.specs.Made.{bad, behind, then}
-use Rattle.texts.specs.Text.{newlines, line_made, bytes_made, plain_of, plain_made, text_made}
+use Rattle.texts.specs.Text.{newlines, line_made, bytes_made, plain_of, entry_made, text_made}
 use Rattle.texts.specs.Steps.{is_closed, line_in, line_at}
 use Rattle.texts.proofs.Parts.{up_to-free, parted}
 use Rattle.texts.proofs.Importing.{open_bad, made_more, made_last, newlines-more}
 use Rattle.texts.proofs.Exporting.{from_more, from_short}
 use Rattle.texts.proofs.Scan.{is_closed_lem, not_closed}
-use Rattle.answers.specs.declared.Refusal.{Refusal}
 
 -- what an answer about a line at `at` says of the text from there on
 abbrev pub Says : List ℕ → ℕ → Result (Entry × ℕ) Refusal → Type 0
 Says s at (Err r) = bytes_made (drop at s) ≡ bad r
 Says s at (Ok (e, next)) =
-    (bytes_made (drop at s) ≡ behind (entry_bytes e) (bytes_made (drop next s))) × (at < next) × (next ≤ length s) × (newlines (drop at s) ≡ suc (newlines (drop next s)))
+    (bytes_made (drop at s) ≡ behind (entry_bytes e) (bytes_made (drop next s))) × (at < next) × (newlines (drop at s) ≡ suc (newlines (drop next s)))
 
 pub line_says : (s : List ℕ) (at : ℕ) → at < length s → Says s at (line_at s at)
 unfolding line_at line_in line_made
@@ -59,7 +56,6 @@ line_says s at h = closing (is_closed t) refl
     sizes e q true p = (
       made e ∙ rw (q, p),
       omega arith,
-      omega (arith, ap (length {A = ℕ}) e, length-append w (newline ∷ past newline t), length-drop at s),
       ap newlines e ∙ newlines-more w (past newline t) (up_to-free newline t) ∙ ap (λ (u : List ℕ). suc (newlines u)) (rest e),
     )
     sizes e q false p = made e ∙ rw (q, p)
@@ -77,44 +73,30 @@ line_says s at h = closing (is_closed t) refl
         ]
 
 -- the same of an answer that is known
-pub line_tells : (s : List ℕ) (at : ℕ) (r : Result (Entry × ℕ) Refusal) → at < length s → line_at s at ≡ r → Says s at r
-line_tells s at r h e = subst (Says s at) e (line_says s at h)
+pub line_tells : (s : List ℕ) (at : ℕ) (r : Result (Entry × ℕ) Refusal) → at < length s → r ≡ line_at s at → Says s at r
+line_tells s at r h e = subst (Says s at) (sym e) (line_says s at h)
 
--- what an answer about an entry at `at` says of the bytes from there on
-abbrev pub Tells : List ℕ → ℕ → Result Entry Refusal → Type 0
-Tells s at (Err r) = text_made (drop at s) ≡ bad r
-Tells s at (Ok e) = (text_made (drop at s) ≡ behind (line_of e) (text_made (drop (at + 10) s))) × (at + 10 ≤ length s)
-
-short : (t : List ℕ) → length t < 10 → entry_of t ≡ Err TooShort
+short : (b : List ℕ) → length b < 10 → entry_of b ≡ Err TooShort
 unfolding entry_of
-short t l = rw (lt-ltb (length t) 10 l)
+short b l = rw (lt-ltb (length b) 10 l)
 
-pub entry_tells : (s : List ℕ) (at : ℕ) → at < length s → Tells s at (plain_of (entry_of (drop at s)))
-entry_tells s at h =
-    elim (dec_lt (length t) 10) [
-      | yes l ↦ rw (short t l) (from_short t (omega (arith, length-drop at s)) l)
-      | no l ↦ whole (omega arith) (entry_of t) refl
-    ]
-  where
-    t : List ℕ
-    t = drop at s
+-- the first ten bytes of what is left, or all of it if it has fewer
+module _ (s b rest : List ℕ) (e : s ≡ b ++ rest) (size : length b ≡ min 10 (length s)) (some : 0 < length s) where
+  entry_first : text_made s ≡ then (entry_made b) (text_made rest)
+  entry_first =
+      let sum : length s ≡ length b + length rest = ap length e ∙ length-append b rest in
+      elim (dec_lt (length s) 10) [
+        | yes l ↦ rw (from_short s (omega arith) l, short b (omega arith))
+        | no l ↦ ap text_made e ∙ from_more b rest (omega arith)
+      ]
 
-    made : 10 ≤ length t → text_made t ≡ then (plain_made (plain_of (entry_of t))) (text_made (drop (at + 10) s))
-    made l =
-        ap text_made (sym (take-append-drop 10 t)) ∙ from_more (take 10 t) (drop 10 t) (length-take-le 10 t l)
-        ∙ ap (λ (r : Result Entry Refusal). then (plain_made (plain_of r)) (text_made (drop 10 t))) (entry_front t) ∙ ap (λ (u : List ℕ). then (plain_made (plain_of (entry_of t))) (text_made u)) (drop-drop 10 at s)
+  -- they are bad and decide
+  pub entry_stops : (r : Refusal) → Err r ≡ plain_of (entry_of b) → text_made s ≡ bad r
+  entry_stops r h = entry_first ∙ rw (← h)
 
-    spare : 10 ≤ length t → (e : Entry) → entry_of t ≡ Ok e → (b : Bool) → eqb e.spare 0 ≡ b → Tells s at (cond b (Ok e) (Err NotZero))
-    spare l e q true p = (made l ∙ rw (q, p), omega (arith, length-drop at s))
-    spare l e q false p = made l ∙ rw (q, p)
-
-    whole : 10 ≤ length t → (r : Result Entry Refusal) → entry_of t ≡ r → Tells s at (plain_of r)
-    whole l (Err r) q = made l ∙ rw q
-    whole l (Ok e) q = spare l e q (eqb e.spare 0) refl
-
--- the same of an answer that is known, about the bytes that are lent from there on
-pub part_tells : (s : List ℕ) (at : ℕ) (r : Result Entry Refusal) → at < length s → plain_of (entry_of (take (length s - at) (drop at s))) ≡ r → Tells s at r
-part_tells s at r h e = subst (Tells s at) (ap (λ (u : List ℕ). plain_of (entry_of u)) (sym (part s at)) ∙ e) (entry_tells s at h)
+  -- or give their line in front of what the rest gives
+  pub entry_goes : (x : Entry) → Ok x ≡ plain_of (entry_of b) → text_made s ≡ behind (line_of x) (text_made rest)
+  entry_goes x h = entry_first ∙ rw (← h)
 
 -- how long the line of an entry is
 pub line-length : (e : Entry) → length (line_of e) ≡ length (decimal e.task.0) + length (decimal e.kind) + length (decimal e.cell.0) + length (decimal e.value) + 4
@@ -131,9 +113,9 @@ line-length e =
       length-append t (comma ∷ k),
     )
 
--- a field that is laid over a buffer leaves its length
-pub field_long : (o p : List ℕ) (at n close : ℕ) → at + length (decimal n) + 1 ≤ length o → p ≡ overlaid o at (decimal n ++ close ∷ []) → length p ≡ length o
-field_long o p at n close h e = ap length e ∙ over-length o at (decimal n ++ close ∷ []) (omega (arith, length-append (decimal n) (close ∷ [])))
+pub ruleset lengths = (word-length, line-length)
+
+pub ruleset laid_over = (over-length, over-set)
 
 -- four fields that are laid one behind the other are the line of their entry
 pub fields_line : (o : List ℕ) (at i j k : ℕ) (e : Entry) → at + length (line_of e) ≤ length o

@@ -1,27 +1,25 @@
 -- A line read once from its front: four numbers, each with the byte that closes it, are the line that the newline closes. Assumes nothing.
-use Rattle.std.specs.Prelude.{Some, None, Result, Ok, Err}
-use Prim.Native.Nat.{ℕ, suc, ◌+◌, ◌-◌, ◌≤◌, ◌<◌}
+use Rattle.std.specs.Prelude.{Option, Some, None, Result, Ok, Err}
+use Prim.Native.Nat.{ℕ, suc, ◌+◌, ◌-◌, ◌<◌}
 use native.Mathlib.Omega.{arith}
 use native.Mathlib.Nat.{min-eq_left}
 use native.Mathlib.Decide.{dec_le}
 use mathlib.Core.Path.{◌≡◌, refl, sym, ap, ◌∙◌}
 use mathlib.Core.Logic.{inl, inr}
-use mathlib.Core.Bool.{Bool, true, false, cond, and-false, ◌&&◌}
+use mathlib.Core.Bool.{Bool, true, false, cond, ◌&&◌}
 use mathlib.Core.List.{List, [], ◌∷◌, ◌++◌, append_assoc}
 use lib.ListN.{length, get_or, drop, length-append, length-drop}
 use lib.Seq.{drop-cons, drop-drop, get_or-append_seam, get_or-drop, drop-append-add}
 use lib.Dec.{eqb, leb, ltb}
-use borrow.Author.Tests.{lt-leb, leb-true, lt-ltb, le-ltb, ltb-true, ltb-false, eq-eqb, ne_eqb, eqb-true}
+use borrow.Author.Tests.{lt-leb, leb-true, lt-ltb, ltb-true, ltb-false, eq-eqb, eqb-true}
 use Rattle.tallies.proofs.Lists.{both, either}
 use Rattle.digits.specs.Decimal.{is_digit, all_digits, is_number, value_of, lead, capped, number_at}
 use Rattle.digits.proofs.Laws.{number_digits}
-use Rattle.texts.specs.Types.{NotALine, TooLarge}
+use Rattle.texts.specs.Types.{Entry, Refusal, NotALine, TooLarge}
 use Rattle.texts.specs.Line.{comma, newline, bare, small, entry_with, Line, up_to, past, is_line, fits}
 use Rattle.texts.specs.Steps.{closed_by, field_at, sized, is_closed, line_in, line_at}
 use Rattle.texts.proofs.Parts.{up_to_lem, up_to-none, parted}
 use Rattle.texts.proofs.Lines.{bare_text, bare_of, bare-line, bare-free, line-task, line-kind, line-cell, line-value, is_line_lem}
-use Rattle.entries.specs.declared.Entry.{Entry}
-use Rattle.answers.specs.declared.Refusal.{Refusal}
 
 -- the digits that a text starts with, up to a byte that is none
 lead_of : (y : List ℕ) (c : ℕ) (u : List ℕ) → all_digits y ≡ true → is_digit c ≡ false → lead (y ++ c ∷ u) ≡ y
@@ -35,33 +33,8 @@ lead_prefix [] = refl
 lead_prefix (b ∷ t) = either (λ d. b ∷ t ≡ cond d (b ∷ lead t) [] ++ drop (length (cond d (b ∷ lead t) [])) (b ∷ t)) (is_digit b) (λ d. ap (λ (l : List ℕ). b ∷ l) (lead_prefix t)) (λ d. refl)
 
 -- two numbers read
-number-value : (v i w j : ℕ) → Some (v, i) ≡ Some (w, j) → v ≡ w
-number-value v i w j h = cc
-
-number_place : (v i w j : ℕ) → Some (v, i) ≡ Some (w, j) → i ≡ j
-number_place v i w j h = cc
-
-number-none : (v i : ℕ) → Some (v, i) ≡ None → ⊥
-number-none v i h = let z : ◌≡◌ {A = ℕ} 0 1 = cc in omega arith
-
--- how a field is told from the number and the byte behind it
-module _ (close : ℕ) (s : List ℕ) (at : ℕ) where
-  pub field_none : number_at s at ≡ None → None ≡ field_at close s at
-  unfolding field_at
-  field_none h = rw h
-
-  module _ (v end : ℕ) (h : number_at s at ≡ Some (v, end)) where
-    pub field_end : length s ≤ end → None ≡ field_at close s at
-    unfolding field_at
-    field_end l = rw (h, le-ltb end (length s) l)
-
-    pub field_other : (get_or s end 0 ≡ close → ⊥) → None ≡ field_at close s at
-    unfolding field_at
-    field_other n = rw (h, ne_eqb (get_or s end 0) close n, and-false)
-
-    pub field_found : end < length s → get_or s end 0 ≡ close → Some (v, end + 1) ≡ field_at close s at
-    unfolding field_at
-    field_found l e = rw (h, lt-ltb end (length s) l, eq-eqb (get_or s end 0) close e)
+same_read : (p q : ℕ × ℕ) → Some p ≡ Some q → (p.0 ≡ q.0) × (p.1 ≡ q.1)
+same_read p q h = let e : p ≡ q = cc in (ap (λ (x : ℕ × ℕ). x.0) e, ap (λ (x : ℕ × ℕ). x.1) e)
 
 -- a number in front of its closing byte is read
 module _ (close : ℕ) (none : is_digit close ≡ false) (s : List ℕ) (at : ℕ) (y u : List ℕ) (hy : is_number y ≡ true) (e : drop at s ≡ y ++ close ∷ u) where
@@ -80,7 +53,7 @@ module _ (close : ℕ) (none : is_digit close ≡ false) (s : List ℕ) (at : �
 
   -- and reading goes on behind it
   pub next_of : (v i : ℕ) → field_at close s at ≡ Some (v, i) → drop i s ≡ u
-  next_of v i h = rw (number_place v i (capped (value_of y)) (at + length y + 1) (sym h ∙ field_of)) rest_of
+  next_of v i h = rw ((same_read _ _ (sym h ∙ field_of)).1) rest_of
 
 -- a number and its closing byte that were read
 pub record Field (close : ℕ) (s : List ℕ) (at v next : ℕ) : Type 0 where
@@ -100,27 +73,30 @@ of_field close s at v next = number (is_number x) refl
     end : ℕ
     end = at + length x
 
-    found : is_number x ≡ true → end < length s → get_or s end 0 ≡ close → Some (capped (value_of x), end + 1) ≡ Some (v, next) → Field close s at v next
+    read : Option (ℕ × ℕ)
+    read = Some (capped (value_of x), end + 1)
+
+    found : is_number x ≡ true → end < length s → get_or s end 0 ≡ close → read ≡ Some (v, next) → Field close s at v next
     found n l c h =
-        let p : end + 1 ≡ next = number_place (capped (value_of x)) (end + 1) v next h in
+        let p = same_read (capped (value_of x), end + 1) (v, next) h in
         let sum : end + 1 ≡ suc end = omega arith in
         record {
           number = x;
           numeral = n;
-          value = sym (number-value (capped (value_of x)) (end + 1) v next h);
-          place = sym p;
-          text = lead_prefix (drop at s) ∙ ap (λ (t : List ℕ). x ++ t) (drop-drop (length x) at s ∙ drop-cons s end 0 l ∙ rw (c, ← sum, p));
+          value = sym p.0;
+          place = sym p.1;
+          text = lead_prefix (drop at s) ∙ ap (λ (t : List ℕ). x ++ t) (drop-drop (length x) at s ∙ drop-cons s end 0 l ∙ rw (c, ← sum, p.1));
         }
 
     closing : is_number x ≡ true → (a b : Bool) → ltb end (length s) ≡ a → eqb (get_or s end 0) close ≡ b
-        → cond (a && b) (Some (capped (value_of x), end + 1)) None ≡ Some (v, next) → Field close s at v next
+        → cond (a && b) read None ≡ Some (v, next) → Field close s at v next
     closing n true true p q h = found n (ltb-true end (length s) p) (eqb-true (get_or s end 0) close q) h
-    closing n true false p q h = absurd (number-none v next (sym h))
-    closing n false b p q h = absurd (number-none v next (sym h))
+    closing n true false p q h = absurd cc
+    closing n false b p q h = absurd cc
 
     number : (z : Bool) → is_number x ≡ z → closed_by close s (cond z (Some (capped (value_of x), end)) None) ≡ Some (v, next) → Field close s at v next
     number true n h = closing n (ltb end (length s)) (eqb (get_or s end 0) close) refl refl h
-    number false n h = absurd (number-none v next (sym h))
+    number false n h = absurd cc
 
 -- sizes are told as well from values that are cut off
 capped_size : (v n : ℕ) → n < 4294967296 → leb (capped v) n ≡ leb v n
@@ -236,28 +212,28 @@ module _ (s : List ℕ) (at : ℕ) where
   second p = field_of comma refl s at p.line.task _ p.line.task_number p.text
 
   pub no_first : field_at comma s at ≡ None → line_at s at ≡ Err NotALine
-  no_first h = no_line s at (λ p. number-none _ _ (sym (second p) ∙ h))
+  no_first h = no_line s at (λ p. cc (second p))
 
   module _ (a i : ℕ) (f : field_at comma s at ≡ Some (a, i)) where
     from_kind : (p : Parsed (drop at s)) → drop i s ≡ p.line.kind ++ comma ∷ (p.line.cell ++ comma ∷ (p.line.value ++ newline ∷ p.rest))
     from_kind p = next_of comma refl s at p.line.task _ p.line.task_number p.text a i f
 
     pub no_second : field_at comma s i ≡ None → line_at s at ≡ Err NotALine
-    no_second h = no_line s at (λ p. number-none _ _ (sym (field_of comma refl s i p.line.kind _ p.line.kind_number (from_kind p)) ∙ h))
+    no_second h = no_line s at (λ p. cc (field_of comma refl s i p.line.kind _ p.line.kind_number (from_kind p)))
 
     module _ (b j : ℕ) (g : field_at comma s i ≡ Some (b, j)) where
       from_cell : (p : Parsed (drop at s)) → drop j s ≡ p.line.cell ++ comma ∷ (p.line.value ++ newline ∷ p.rest)
       from_cell p = next_of comma refl s i p.line.kind _ p.line.kind_number (from_kind p) b j g
 
       pub no_third : field_at comma s j ≡ None → line_at s at ≡ Err NotALine
-      no_third h = no_line s at (λ p. number-none _ _ (sym (field_of comma refl s j p.line.cell _ p.line.cell_number (from_cell p)) ∙ h))
+      no_third h = no_line s at (λ p. cc (field_of comma refl s j p.line.cell _ p.line.cell_number (from_cell p)))
 
       module _ (c k : ℕ) (l : field_at comma s j ≡ Some (c, k)) where
         from_value : (p : Parsed (drop at s)) → drop k s ≡ p.line.value ++ newline ∷ p.rest
         from_value p = next_of comma refl s j p.line.cell _ p.line.cell_number (from_cell p) c k l
 
         pub no_fourth : field_at newline s k ≡ None → line_at s at ≡ Err NotALine
-        no_fourth h = no_line s at (λ p. number-none _ _ (sym (field_of newline refl s k p.line.value _ p.line.value_number (from_value p)) ∙ h))
+        no_fourth h = no_line s at (λ p. cc (field_of newline refl s k p.line.value _ p.line.value_number (from_value p)))
 
         pub all_four : (d next : ℕ) → field_at newline s k ≡ Some (d, next) → line_at s at ≡ sized a b c d next
         all_four d next m = line_read s at a i b j c k d next (of_field comma s at a i f) (of_field comma s i b j g) (of_field comma s j c k l) (of_field newline s k d next m)

@@ -1,11 +1,9 @@
 -- What the private functions answer: a number and its closing byte, a line at a place, how many bytes are made.
 use Rattle.std.specs.Prelude.{ℕ, ◌+◌, Bool, true, false, cond, ◌&&◌, List, eqb, ltb, length, get_or, drop, Option, Some, None, Result, Ok, Err}
 use Rattle.digits.specs.Decimal.{number_at}
-use Rattle.texts.specs.Types.{NotALine, TooLarge}
+use Rattle.texts.specs.Types.{Entry, Refusal, NotALine, TooLarge}
 use Rattle.texts.specs.Line.{newline, up_to, is_line, small, fits, entry_with, entry_in}
 use Rattle.texts.specs.Made.{Made, good, bad}
-use Rattle.entries.specs.declared.Entry.{Entry}
-use Rattle.answers.specs.declared.Refusal.{Refusal}
 
 -- a number that the byte `close` follows: its value, and the place behind that byte
 abbrev pub closed_by : ℕ → List ℕ → Option (ℕ × ℕ) → Option (ℕ × ℕ)

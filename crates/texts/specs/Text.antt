@@ -3,11 +3,9 @@ use Rattle.std.specs.Prelude.{ℕ, zero, suc, ◌+◌, cond, not, List, [], ◌�
 use Rattle.tallies.specs.Tally.{bit}
 use Rattle.entries.specs.Entry.{entry_of, entry_bytes}
 use Rattle.entries.specs.Schedule.{entries_of}
-use Rattle.texts.specs.Types.{NotZero, TooLong, NotALine, TooLarge}
+use Rattle.texts.specs.Types.{Entry, Refusal, NotZero, TooLong, NotALine, TooLarge}
 use Rattle.texts.specs.Line.{newline, up_to, past, is_line, fits, entry_in, line_of}
 use Rattle.texts.specs.Made.{Made, good, bad, gathered}
-use Rattle.entries.specs.declared.Entry.{Entry}
-use Rattle.answers.specs.declared.Refusal.{Refusal}
 
 -- Import.
 

@@ -30,34 +30,22 @@ pub fn text_bytes(a: Result<usize, Refusal>) -> usize
 
 // Import.
 
-fn newline_bit(b: u8) -> usize
-    ensures { result ≡ bit (eqb b newline) }
-{
-    if b == b'\n' { 1 } else { 0 }
-}
-
+#[tactic(auto, using(crate::proofs::Parts::newlines_sum))]
 fn newlines(text: &[u8]) -> usize
     ensures { result ≡ newlines text.now }
 {
-    let n = text.len();
-    let mut count: usize = 0;
-    let mut i: usize = 0;
-    while i < n {
-        count += newline_bit(text[i]);
-        i += 1;
-    }
-    count
+    // a sum has no branch, so it is quicker than `filter` and `count`
+    text.iter().map(|b| usize::from(*b == b'\n')).sum()
 }
 
 // A number and the byte that closes it.
+#[tactic(auto, unfolding(crate::specs::Steps::field_at))]
 fn field_at(s: &[u8], at: usize, close: u8) -> Option<(u64, usize)>
     ensures { result ≡ field_at close s.now at }
 {
     let (value, end) = digits::number_at(s, at)?;
-    if s.len() <= end {
-        return None; // nothing closes it
-    }
-    if s[end] != close {
+    let behind = s.get(end)?; // nothing closes it
+    if *behind != close {
         return None;
     }
     Some((value, end + 1))
@@ -65,19 +53,16 @@ fn field_at(s: &[u8], at: usize, close: u8) -> Option<(u64, usize)>
 
 // The entry of a line's numbers, and the place behind the line; or 31 for a number too large.
 #[tactic(auto, unfolding(crate::specs::Steps::sized))]
-fn sized(task: u64, kind: u64, cell: u64, value: u64, next: usize) -> Result<(Entry, usize), Refusal>
+fn sized(
+    task: u64,
+    kind: u64,
+    cell: u64,
+    value: u64,
+    next: usize,
+) -> Result<(Entry, usize), Refusal>
     ensures { result ≡ sized task kind cell value next }
 {
-    if 255 < task {
-        return Err(Refusal::TooLarge);
-    }
-    if 255 < kind {
-        return Err(Refusal::TooLarge);
-    }
-    if 255 < cell {
-        return Err(Refusal::TooLarge);
-    }
-    if 4294967295 < value {
+    if 255 < task || 255 < kind || 255 < cell || 4294967295 < value {
         return Err(Refusal::TooLarge);
     }
     let e = Entry {
@@ -91,25 +76,14 @@ fn sized(task: u64, kind: u64, cell: u64, value: u64, next: usize) -> Result<(En
 }
 
 // One line, read once from its front: the form of all of it (30) comes before its sizes (31).
+#[tactic(auto, using(crate::proofs::Scan::no_first, crate::proofs::Scan::no_second, crate::proofs::Scan::no_third, crate::proofs::Scan::all_four))]
 fn line_at(s: &[u8], at: usize) -> Result<(Entry, usize), Refusal>
     ensures { result ≡ line_at s.now at }
 {
-    let first = field_at(s, at, b',');
-    let Some((task, kind_at)) = first else {
-        return Err(Refusal::NotALine);
-    };
-    let second = field_at(s, kind_at, b',');
-    let Some((kind, cell_at)) = second else {
-        return Err(Refusal::NotALine);
-    };
-    let third = field_at(s, cell_at, b',');
-    let Some((cell, value_at)) = third else {
-        return Err(Refusal::NotALine);
-    };
-    let fourth = field_at(s, value_at, b'\n');
-    let Some((value, next)) = fourth else {
-        return Err(Refusal::NotALine); // nor is a line without its newline one
-    };
+    let (task, kind_at) = field_at(s, at, b',').ok_or(Refusal::NotALine)?;
+    let (kind, cell_at) = field_at(s, kind_at, b',').ok_or(Refusal::NotALine)?;
+    let (cell, value_at) = field_at(s, cell_at, b',').ok_or(Refusal::NotALine)?;
+    let (value, next) = field_at(s, value_at, b'\n').ok_or(Refusal::NotALine)?; // nor is a line without its newline one
     sized(task, kind, cell, value, next)
 }
 
@@ -118,18 +92,13 @@ fn check_lines(text: &[u8]) -> Result<usize, Refusal>
     requires { newlines text.now ≤ 6553 }
     ensures { result ≡ length_of (bytes_made text.now) }
 {
-    let n = text.len();
-    let mut at: usize = 0;
-    let mut made: usize = 0;
-    while at < n {
-        let line = line_at(text, at);
-        match line {
-            Err(r) => return Err(r),
-            Ok((_, next)) => {
-                made += 10;
-                at = next;
-            }
-        }
+    let mut at = 0;
+    let mut made = 0;
+    // a `while`: the place moves by what a line uses
+    while at < text.len() {
+        let (_, next) = line_at(text, at)?;
+        made += 10;
+        at = next;
     }
     Ok(made)
 }
@@ -139,23 +108,20 @@ fn write_entries(text: &[u8], entries: &mut [u8])
     requires { (is_good (bytes_made text.now) ≡ true) × (length (bytes_of (bytes_made text.now)) ≤ length entries.old) }
     ensures { entries.new ≡ overlaid entries.old 0 (bytes_of (bytes_made text.now)) }
 {
-    let n = text.len();
-    let mut at: usize = 0;
-    let mut to: usize = 0;
-    while at < n {
-        let line = line_at(text, at);
-        match line {
-            Err(_) => return,
-            Ok((e, next)) => {
-                entries::put_entry(entries, to, e);
-                to += 10;
-                at = next;
-            }
-        }
+    let mut at = 0;
+    let mut to = 0;
+    while at < text.len() {
+        let Ok((e, next)) = line_at(text, at) else {
+            return; // no line is bad
+        };
+        entries::put_entry(entries, to, e);
+        to += 10;
+        at = next;
     }
 }
 
 // Text to entry bytes.
+#[tactic(auto, unfolding(crate::specs::Text::imported, crate::specs::Made::answered, crate::specs::Made::laid))]
 pub fn import(text: &[u8], entries: &mut [u8]) -> Result<usize, Refusal>
     ensures { (result ≡ answered (imported text.now) (length entries.old)) × (entries.new ≡ laid (imported text.now) entries.old) }
 {
@@ -170,7 +136,7 @@ pub fn import(text: &[u8], entries: &mut [u8]) -> Result<usize, Refusal>
     Ok(n)
 }
 
-// Export.
+// Export. Its two loops are not import's over a trait: entries are cut by their length, and lines as they are read.
 
 // The entry at the front of s, with the tests that export makes (20, 19, 15).
 fn plain_entry(s: &[u8]) -> Result<Entry, Refusal>
@@ -184,6 +150,7 @@ fn plain_entry(s: &[u8]) -> Result<Entry, Refusal>
 }
 
 // Four numbers of at most ten digits, three commas and a newline.
+#[tactic(auto, using(crate::proofs::Pieces::lengths))]
 fn line_length(e: Entry) -> usize
     ensures { (result ≡ length (line_of e)) × (result ≤ 44) }
 {
@@ -199,23 +166,16 @@ fn check_entries(entries: &[u8]) -> Result<usize, Refusal>
     requires { length entries.now ≤ 65530 }
     ensures { result ≡ length_of (text_made entries.now) }
 {
-    let n = entries.len();
-    let mut at: usize = 0;
-    let mut made: usize = 0;
-    while at < n {
-        let read = plain_entry(&entries[at..]);
-        match read {
-            Err(r) => return Err(r),
-            Ok(e) => {
-                made += line_length(e);
-                at += 10;
-            }
-        }
+    let mut made = 0;
+    for piece in entries.chunks(10) {
+        let e = plain_entry(piece)?;
+        made += line_length(e);
     }
     Ok(made)
 }
 
-// A number and the byte that closes it; answers where they end.
+// A number and the byte that closes it; answers where they end. A writer that holds `text` and `at` would be a type for these two functions alone.
+#[tactic(auto, using(wire::proofs::Laws::has_room, digits::proofs::Writing::end_fits, crate::proofs::Pieces::laid_over))]
 fn put_field(text: &mut [u8], at: usize, n: u32, close: u8) -> usize
     requires { at + length (decimal n) + 1 ≤ length text.old }
     ensures { (result ≡ at + length (decimal n) + 1) × (text.new ≡ overlaid text.old at (decimal n ++ close ∷ [])) }
@@ -225,6 +185,7 @@ fn put_field(text: &mut [u8], at: usize, n: u32, close: u8) -> usize
     end + 1
 }
 
+#[tactic(auto, using(crate::proofs::Pieces::fields_line, crate::proofs::Pieces::lengths))]
 fn put_line(text: &mut [u8], at: usize, e: Entry) -> usize
     requires { at + length (line_of e) ≤ length text.old }
     ensures { (result ≡ at + length (line_of e)) × (text.new ≡ overlaid text.old at (line_of e)) }
@@ -240,22 +201,17 @@ fn write_lines(entries: &[u8], text: &mut [u8])
     requires { (is_good (text_made entries.now) ≡ true) × (length (bytes_of (text_made entries.now)) ≤ length text.old) }
     ensures { text.new ≡ overlaid text.old 0 (bytes_of (text_made entries.now)) }
 {
-    let n = entries.len();
-    let mut at: usize = 0;
-    let mut to: usize = 0;
-    while at < n {
-        let read = plain_entry(&entries[at..]);
-        match read {
-            Err(_) => return,
-            Ok(e) => {
-                to = put_line(text, to, e);
-                at += 10;
-            }
-        }
+    let mut to = 0;
+    for piece in entries.chunks(10) {
+        let Ok(e) = plain_entry(piece) else {
+            return; // no entry is bad
+        };
+        to = put_line(text, to, e);
     }
 }
 
 // Entry bytes to text.
+#[tactic(auto, unfolding(crate::specs::Text::exported, crate::specs::Made::answered, crate::specs::Made::laid))]
 pub fn export(entries: &[u8], text: &mut [u8]) -> Result<usize, Refusal>
     ensures { (result ≡ answered (exported entries.now) (length text.old)) × (text.new ≡ laid (exported entries.now) text.old) }
 {

@@ -63,7 +63,7 @@ pub fn turn(m: &mut Machine, e: Entry) -> Answer
 {
     let p = e.task;
     let t = m.task(p);
-    match entries::asks(m.n, m.p, p, e.kind, e.cell, e.spare, e.value)? {
+    match entries::asks(m.n, m.p, e)? {
         Asked::ToGo => go(m, p),
         Asked::ToLoad(x) => carry(m, p, entries::load(t, x)),
         Asked::ToStore(x, y) => carry(m, p, entries::store(t, x, y)),

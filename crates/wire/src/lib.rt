@@ -15,14 +15,14 @@ pub const REPLY: [u8; 2] = [0x41, 0x4E];
 pub fn byte_at(s: &[u8], i: usize) -> u8
     ensures { result ≡ get_or s.now i 0 }
 {
-    if i < s.len() { s[i] } else { 0 }
+    s.get(i).copied().unwrap_or(0)
 }
 
 // Four bytes, the lowest first.
 pub fn little_endian(a: u8, b: u8, c: u8, d: u8) -> u32
     ensures { result ≡ word a b c d }
 {
-    (a as u32) + 256 * (b as u32) + 65536 * (c as u32) + 16777216 * (d as u32)
+    u32::from_le_bytes([a, b, c, d])
 }
 
 // The number in the four bytes from `at` on.
@@ -39,14 +39,14 @@ pub fn word_at(s: &[u8], at: u32) -> u32
     )
 }
 
-// Whether the bytes start with the mark.
+// Whether the bytes start with the mark, where a byte past the end is 0; `s.starts_with(&mark)` says no of fewer than two bytes.
 #[tactic(auto, unfolding(crate::specs::Bytes::marked))]
 pub fn starts_with(s: &[u8], mark: [u8; 2]) -> bool
     ensures { result ≡ marked mark s.now }
 {
     let a = byte_at(s, 0);
     let b = byte_at(s, 1);
-    if a == mark[0] { b == mark[1] } else { false }
+    a == mark[0] && b == mark[1]
 }
 
 // Whether n places from `at` on are within the first `len`.
@@ -60,33 +60,29 @@ pub fn has_room(len: usize, at: usize, n: usize) -> bool
 }
 
 // A mark from place `at` on; nothing where there is no room for it. The same of what follows.
-#[tactic(auto, using(crate::proofs::Laws::no_room, crate::proofs::Laws::has_room, crate::proofs::Laws::two), unfolding(crate::specs::Bytes::fitted))]
+#[tactic(auto, unfolding(crate::specs::Bytes::fitted))]
 pub fn put_mark(out: &mut [u8], at: usize, mark: [u8; 2])
     ensures { out.new ≡ fitted out.old at mark }
 {
     if !has_room(out.len(), at, 2) {
         return;
     }
-    out[at] = mark[0];
-    out[at + 1] = mark[1];
+    out[at..at + 2].copy_from_slice(&mark);
 }
 
 // A number in four bytes, the lowest first.
-#[tactic(auto, using(crate::proofs::Laws::no_room))]
+#[tactic(auto, unfolding(crate::specs::Bytes::fitted))]
 pub fn put_word(out: &mut [u8], at: usize, value: u32)
     ensures { out.new ≡ fitted out.old at (little_endian value) }
 {
     if !has_room(out.len(), at, 4) {
         return;
     }
-    out[at] = (value % 256) as u8;
-    out[at + 1] = (value / 256 % 256) as u8;
-    out[at + 2] = (value / 65536 % 256) as u8;
-    out[at + 3] = (value / 16777216) as u8;
+    out[at..at + 4].copy_from_slice(&value.to_le_bytes());
 }
 
 // A reply record.
-#[tactic(auto, using(crate::proofs::Laws::no_room, crate::proofs::Laws::lengths))]
+#[tactic(auto, using(crate::proofs::Laws::no_room, crate::proofs::Laws::two, crate::proofs::Laws::framed))]
 pub fn put_reply(out: &mut [u8], at: usize, number: u8, task: u8, value: u32)
     ensures { out.new ≡ fitted out.old at (reply_of number task value) }
 {

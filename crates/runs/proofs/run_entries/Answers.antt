@@ -36,7 +36,7 @@ pub returns-in-Err : goal.returns-in-Err
 returns-in-Err c =
     let l = c.loop-i in
     let steps = c.in-Some.ensures.steps.0 in
-    let n = c.refusal_number-number.ensures in
+    let n = c.from-number.ensures in
     let at : c.in-Some.i ≡ l.i-iterator.count = c.in-Some.ensures.steps.1 in
     let more = more-bytes c.args.s.now l.i-iterator.count _ _ c.in-Some.bytes.now _ l.invariant.2 l.invariant.3 steps.1.0 steps.1.1 steps.1.2 in
     let bytes = next-bytes c.args.s.now l.i-iterator.count _ _ _ _ l.invariant.2 l.invariant.3 steps.1.0 steps.1.1 in

@@ -3,4 +3,4 @@ use Rattle.texts.proofs.Going.{answered-fits, laid-length}
 use Rattle.schedule_text.proofs.export.Goals as goal
 
 pub tell-requires : goal.tell-requires
-tell-requires g c = rw (c.export-a.ensures.0, c.export-a.ensures.1, laid-length _ _) (answered-fits _ _)
+tell-requires g c = rw (c.export-made.ensures.0, c.export-made.ensures.1, laid-length _ _) (answered-fits _ _)

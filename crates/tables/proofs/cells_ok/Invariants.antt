@@ -1,11 +1,8 @@
 -- What is known so far is the test of the cells passed.
-use Rattle.std.proofs.Common.{◌-◌, ◌≡◌, ◌≤◌}
+use Rattle.std.proofs.Common.{◌≡◌}
 use Rattle.tallies.specs.Lists.{every}
 use Rattle.tables.specs.Tables.{cell_ok}
 use Rattle.tables.proofs.cells_ok.Given as goal
 
 abbrev pub invariant-loop-i : goal.invariant-loop-i
-invariant-loop-i l = record { within : l.i ≤ l.n; tested : l.ok ≡ every (cell_ok l.cells l.k) l.i }
-
-abbrev pub decreases-loop-i : goal.decreases-loop-i
-decreases-loop-i l = l.n - l.i
+invariant-loop-i l = l.ok ≡ every (cell_ok l.cells l.k) l.i

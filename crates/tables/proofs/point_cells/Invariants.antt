@@ -1,10 +1,7 @@
 -- The cells passed point at their nodes.
-use Rattle.std.proofs.Common.{◌-◌, ◌≡◌, ◌≤◌, ℕ}
+use Rattle.std.proofs.Common.{◌≡◌, ℕ}
 use Rattle.tallies.specs.Lists.{fill_to}
 use Rattle.tables.proofs.point_cells.Given as goal
 
 abbrev pub invariant-loop-i : goal.invariant-loop-i
-invariant-loop-i l = record { within : l.i ≤ l.n; few : l.i ≤ 64; filled : l.cells ≡ fill_to (λ (j : ℕ). j) l.i l.fn.cells }
-
-abbrev pub decreases-loop-i : goal.decreases-loop-i
-decreases-loop-i l = l.n - l.i
+invariant-loop-i l = l.cells ≡ fill_to (λ (j : ℕ). j) l.i l.fn.cells

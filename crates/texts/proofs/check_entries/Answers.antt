@@ -1,25 +1,30 @@
 -- `check_entries`: what is left of the entries gives the whole.
-use Rattle.std.specs.Prelude.{Ok, Err}
-use Rattle.std.proofs.Common.{◌+◌, sym, ◌∙◌, arith}
+use Rattle.std.proofs.Common.{ℕ, length, ap, length-append, rules, arith}
+use Rattle.std.proofs.lemmas.Result.{err_from_is_err_and}
+use Rattle.std.specs.Slice.Iter.{chunks_rest}
 use Rattle.texts.specs.Line.{line_of}
 use Rattle.texts.specs.Text.{text_made}
 use Rattle.texts.proofs.Going.{check_on, check_stops, check_ends}
-use Rattle.texts.proofs.Pieces.{part_tells}
+use Rattle.texts.proofs.Pieces.{entry_stops, entry_goes}
 use Rattle.texts.proofs.Exporting.{nothing_from}
 use Rattle.texts.proofs.check_entries.Goals as goal
 
-pub returns-in-Err : goal.returns-in-Err
-returns-in-Err c =
-    let l = c.loop-at in
-    let t = part_tells c.args.entries.now l.at (Err c.in-Err.r) (omega arith) (sym c.plain_entry-read.ensures ∙ c.in-Err.is) in
-    check_stops text_made c.args.entries.now l.at l.made c.in-Err.r l.invariant.0 t
+pub returns-in_err-e : goal.returns-in_err-e
+returns-in_err-e c =
+    let p = err_from_is_err_and c.from_residual.result c.from_residual.ensures.1 in
+    let i = c.loop-piece.invariant in
+    let t = c.in-Some.ensures.steps in
+    rw (p.1, p.2) (check_stops text_made c.args.entries.now _ _ _ i.3 (entry_stops _ c.in-Some.piece.now (chunks_rest c.next.new.self) t.1.0 (rw i.2 at t.1.1) t.1.2 _ c.in_err-e.ensures))
 
-pub loop-at-preserved : goal.loop-at-preserved
-loop-at-preserved c =
-    let l = c.loop-at in
-    let t = part_tells c.args.entries.now l.at (Ok c.in-Ok.e) (omega arith) (sym c.plain_entry-read.ensures ∙ c.in-Ok.is) in
+pub loop-piece-preserved : goal.loop-piece-preserved
+loop-piece-preserved c =
+    let i = c.loop-piece.invariant in
+    let t = c.in-Some.ensures.steps in
+    let size = rw i.2 at t.1.1 in
+    let i4 = i.4 in
+    let e = entry_goes _ c.in-Some.piece.now (chunks_rest c.next.new.self) t.1.0 size t.1.2 _ c.in_ok-e.ensures in
     let long = c.line_length-made.ensures in
-    (rw long.0 (check_on text_made c.args.entries.now l.at l.made (l.at + 10) (line_of c.in-Ok.e) l.invariant.0 t.1 t.0), omega (arith, l.invariant.1, long.1), l.invariant.2)
+    (search rules, tt, search rules, rw long.0 (check_on text_made c.args.entries.now _ _ (line_of c.in_ok-e.e) _ i.3 e), let some = t.1.2 in omega (arith, ap (length {A = ℕ}) t.1.0, length-append c.in-Some.piece.now (chunks_rest c.next.new.self)))
 
 pub returns : goal.returns
-returns c = let l = c.loop-at in check_ends text_made c.args.entries.now l.at l.made l.invariant.0 (omega arith) nothing_from
+returns c = check_ends text_made c.args.entries.now _ _ c.loop-piece.invariant.3 c.in-None.ensures.steps.1.0 nothing_from

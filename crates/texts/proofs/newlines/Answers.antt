@@ -1,15 +1,10 @@
--- `newlines`: those that are counted and those that are left are all.
-use Rattle.std.proofs.Common.{eqb, get_or, arith}
-use Rattle.tallies.proofs.Tally.{bit_le}
-use Rattle.texts.specs.Line.{newline}
-use Rattle.texts.proofs.Parts.{newlines-next, newlines-none}
+-- `newlines`: each byte adds at most one, so the sum fits.
+use Rattle.std.proofs.Common.{rules, tests, arith}
+use Rattle.std.proofs.lemmas.Iterator.{YieldsList-from_slice}
+use Rattle.std.proofs.lemmas.Iterator.Adapters.{fits_from_length, at_most_from_yields_List}
 use Rattle.texts.proofs.newlines.Goals as goal
 
-pub loop-i-preserved : goal.loop-i-preserved
-loop-i-preserved c =
-    let next = newlines-next c.args.text.now c.loop-i.i (omega arith) in
-    let one = bit_le (eqb (get_or c.args.text.now c.loop-i.i 0) newline) in
-    (omega arith, omega (arith, one), omega (arith, next))
-
-pub returns : goal.returns
-returns c = omega (arith, newlines-none c.args.text.now c.loop-i.i (omega arith))
+pub sum-requires-clause-fits : goal.sum-requires-clause-fits
+sum-requires-clause-fits c =
+    let most = c.iter.ensures.bound in
+    fits_from_length _ _ 18446744073709551615 _ (at_most_from_yields_List (YieldsList-from_slice c.args.text.now cc) (omega arith)) c.map.ensures.closure (omega arith) (λ x r q k. search (rules, tests))

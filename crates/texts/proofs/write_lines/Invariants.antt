@@ -1,11 +1,13 @@
-use Rattle.std.proofs.Common.{◌-◌}
+use Rattle.std.proofs.Common.{◌≡◌}
+use Rattle.std.specs.Slice.Iter.{chunks_rest, chunks_size}
 use Rattle.texts.specs.Text.{text_made}
 use Rattle.texts.proofs.Going.{Writing}
 use Rattle.texts.proofs.write_lines.Given as goal
 
 -- what is left to write gives the whole
-abbrev pub invariant-loop-at : goal.invariant-loop-at
-invariant-loop-at l = Writing text_made l.entries l.initial.text l.at l.to l.text
-
-abbrev pub decreases-loop-at : goal.decreases-loop-at
-decreases-loop-at l = l.n - l.at
+abbrev pub invariant-loop-piece : goal.invariant-loop-piece
+invariant-loop-piece l =
+    (goal.iterator-loop-piece).can_next l.piece-iterator
+    × (goal.iterator-loop-piece).is_finite l.piece-iterator
+    × (chunks_size l.piece-iterator ≡ 10)
+    × Writing text_made l.entries l.initial.text (chunks_rest l.piece-iterator) l.to l.text
