@@ -126,7 +126,7 @@ fn run_entries(m: &mut Machine, s: &[u8], out: &mut [u8], free_nodes: &mut [u8])
         let a = turns::turn(m, e);
         let number = answers::number(a);
         reply(out, i, number, e.task.0, answers::value(a));
-        note(free_nodes, i, m);
+        note(free_nodes, i, m); // of the machine that this entry leaves
         if a.is_err() {
             return stopped(report, number);
         }
