@@ -115,7 +115,7 @@ impl Machine {
     pub fn task_at(&self, p: TaskNo) -> Task
         ensures { result ≡ task_in self.now.tasks p }
     {
-        tables::task_at(self.tasks, p)
+        tables::task_at(&self.tasks, p)
     }
 
     // The same, where a number past the 16th stands for the last: so no branch is taken on it.
@@ -153,7 +153,7 @@ impl Machine {
     pub fn in_range(&self) -> bool
         ensures { result ≡ in_range self.now }
     {
-        self.tables_ok() && tables::tasks_ok(self.tasks, self.n, self.p, self.k)
+        self.tables_ok() && tables::tasks_ok(&self.tasks, self.n, self.p, self.k)
     }
 
     // The one place where an effect is written back: it holds the task's record and the one place that changes. A refusal writes nothing.
@@ -215,6 +215,6 @@ impl Machine {
     pub fn holders(&self, v: NodeNo) -> Option<usize>
         ensures { result ≡ held_among self.now.tasks self.now.p v }
     {
-        tasks::held_among(self.tasks, self.p, v)
+        tasks::held_among(&self.tasks, self.p, v)
     }
 }
