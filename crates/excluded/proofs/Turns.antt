@@ -87,9 +87,10 @@ module _ (κs : Lfts 1) (m' : Machine) (z : Answer) where
         let e = get_or-set_same (standing p (at 12)).tasks (place p) (at 0) no_task l in
         omega (arith, ap (λ m. (task_at m (place p)).phase) q.0, ap (λ u. u.phase) e, h)
 
-    -- a deed that writes the record of another task than its own
-    pub deed_writes_other_task : (j : ℕ) → j ≢ place p → Carries (does (at 0) (Count (node_no 4) 1 1) Took) → task_at m' j ≢ task_at (standing p (at 12)) j → ⊥
-    deed_writes_other_task j n q h = h (ap (λ m. task_at m j) q.0 ∙ get_or-set_other (standing p (at 12)).tasks (place p) j (at 0) no_task n)
+    -- an effect that writes the record of another task than its own
+    pub effect_writes_other_task : (e : Effect) (j : ℕ) → j ≢ place p → Carries e → task_at m' j ≢ task_at (standing p (at 12)) j → ⊥
+    effect_writes_other_task (Err r) j n q h = h (ap (λ m. task_at m j) q.0)
+    effect_writes_other_task (Ok d) j n q h = h (ap (λ m. task_at m j) q.0 ∙ get_or-set_other (standing p (at 12)).tasks (place p) j d.task no_task n)
 
     -- an effect that changes N, P or K
     pub effect_changes_sizes : (e : Effect) → Carries e → m'.n ∷ m'.p ∷ m'.k ∷ [] ≢ 1 ∷ 2 ∷ 5 ∷ [] → ⊥
