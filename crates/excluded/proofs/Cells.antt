@@ -24,7 +24,7 @@ use Rattle.cells.specs.Machine.{placed}
 use Rattle.cells.specs.Apply.{apply_of}
 use Rattle.cells.proofs.Machine.seen.Reads as seen
 use Rattle.cells.proofs.Machine.tables_ok.Reads as tables-ok
-use Rattle.cells.proofs.Machine.sound.Reads as sound
+use Rattle.cells.proofs.Machine.in_range.Reads as sound
 use Rattle.cells.proofs.Machine.task.Reads as task
 use Rattle.cells.proofs.Machine.carry.Reads as carry
 use Rattle.cells.proofs.Machine.apply.Reads as apply
