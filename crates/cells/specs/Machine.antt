@@ -1,5 +1,5 @@
 -- The machine record: what a step sees of it, what a step leaves of it, and its ranges.
-use Rattle.std.specs.Prelude.{ℕ, Bool, ◌&&◌, ◌≡◌, List, leb, length, set, Ok, Err}
+use Rattle.std.specs.Prelude.{ℕ, Bool, ◌&&◌, ◌≡◌, List, leb, length, min, set, Ok, Err}
 use Rattle.tallies.specs.Lists.{every}
 use Rattle.steps.specs.Table.{answer_of}
 use Rattle.tables.specs.Tables.{node_in, count_in, value_in, sizes_ok, cell_ok, count_ok, task_ok_in}
@@ -83,6 +83,10 @@ written m p t w =
 -- a refusal leaves the record unchanged; i is the task byte of its reply
 abbrev pub refused_by : Machine → ℕ → Refusal → Applied
 refused_by m i r = record { machine = m; answer = Err r; task = i }
+
+-- where a lent machine has the record of task p: a number past the 16th stands for the last, and no entry of such a task is accepted
+abbrev pub placed : TaskNo → TaskNo
+placed p = record { 0 = min p.0 15 }
 
 -- an effect of task p leaves the record as it was, or written
 abbrev pub left_by : Machine → TaskNo → Effect → Machine

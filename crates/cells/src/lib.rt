@@ -8,7 +8,7 @@ ghost use Rattle.std.specs.Prelude.{◌≡◌};
 ghost use Rattle.tasks.specs.Holders.{held_among};
 ghost use Rattle.steps.specs.Table.{answer_of};
 ghost use Rattle.tables.specs.Tables.{task_in, put_in};
-ghost use Rattle.cells.specs.Machine.{seen_of, cells_by, values_by, counts_by, free_by, left_by, tables_ok, in_range};
+ghost use Rattle.cells.specs.Machine.{seen_of, cells_by, values_by, counts_by, free_by, placed, left_by, tables_ok, in_range};
 ghost use Rattle.cells.specs.Apply.{decision_of, apply_of};
 ghost use Rattle.cells.specs.Setup.{setup_of, setup_number, setup_bytes};
 
@@ -112,20 +112,17 @@ pub fn write_free(free: u8, w: Write) -> u8
 }
 
 impl Machine {
-    pub fn task_at(self, p: TaskNo) -> Task
-        ensures { result ≡ task_in self.tasks p }
-    {
-        self.task(p)
-    }
-
-    // The same of a machine that is lent.
-    pub fn task(&self, p: TaskNo) -> Task
+    pub fn task_at(&self, p: TaskNo) -> Task
         ensures { result ≡ task_in self.now.tasks p }
     {
-        match self.tasks.get(p.0 as usize) {
-            Some(t) => *t,
-            None => tasks::idle_owning(NodeNo(0)),
-        }
+        tables::task_at(&self.tasks, p)
+    }
+
+    // The same, where a number past the 16th stands for the last: so no branch is taken on it.
+    pub fn task(&self, p: TaskNo) -> Task
+        ensures { result ≡ task_in self.now.tasks (placed p) }
+    {
+        self.tasks[tables::slot(p)]
     }
 
     // What a step of the task record t may look at.
@@ -152,23 +149,16 @@ impl Machine {
             && tables::counts_ok(&self.counts, self.k, self.p)
     }
 
-    // The range test (22) of a machine that is lent.
-    pub fn sound(&self) -> bool
+    // The range test (22).
+    pub fn in_range(&self) -> bool
         ensures { result ≡ in_range self.now }
     {
-        self.tables_ok() && tables::tasks_ok(self.tasks, self.n, self.p, self.k)
-    }
-
-    // The range test (22).
-    pub fn in_range(self) -> bool
-        ensures { result ≡ in_range self }
-    {
-        self.sound()
+        self.tables_ok() && tables::tasks_ok(&self.tasks, self.n, self.p, self.k)
     }
 
     // The one place where an effect is written back: it holds the task's record and the one place that changes. A refusal writes nothing.
     pub fn carry(&mut self, p: TaskNo, e: Effect) -> Answer
-        ensures { (self.new ≡ left_by self.old p e) × (result ≡ answer_of e) }
+        ensures { (self.new ≡ left_by self.old (placed p) e) × (result ≡ answer_of e) }
     {
         let d = e?;
         let w = d.write;
@@ -176,10 +166,7 @@ impl Machine {
         write_values(&mut self.values, w);
         write_counts(&mut self.counts, w);
         self.free = write_free(self.free, w);
-        let i = p.0 as usize;
-        if i < self.tasks.len() {
-            self.tasks[i] = d.task;
-        }
+        self.tasks[tables::slot(p)] = d.task;
         Ok(d.reply)
     }
 
@@ -188,7 +175,7 @@ impl Machine {
     fn decided(&self, s: &[u8]) -> Decision
         ensures { result ≡ decision_of self.now s.now }
     {
-        if !self.sound() {
+        if !self.in_range() {
             return Decision {
                 task: 0,
                 effect: Err(Refusal::Damaged),
@@ -225,9 +212,9 @@ impl Machine {
     }
 
     // The holders question, asked of the record's own tasks.
-    pub fn holders(self, v: NodeNo) -> Option<usize>
-        ensures { result ≡ held_among self.tasks self.p v }
+    pub fn holders(&self, v: NodeNo) -> Option<usize>
+        ensures { result ≡ held_among self.now.tasks self.now.p v }
     {
-        tasks::held_among(self.tasks, self.p, v)
+        tasks::held_among(&self.tasks, self.p, v)
     }
 }

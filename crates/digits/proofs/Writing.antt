@@ -1,5 +1,5 @@
 -- Writing the digits of a number from its last one on: what is left to write gives the whole. Assumes nothing.
-use Prim.Native.Nat.{ℕ, zero, suc, ◌+◌, ◌*◌, ◌/◌, ◌%◌, ◌^◌, ◌≤◌, ◌<◌}
+use Prim.Native.Nat.{ℕ, zero, suc, max, ◌+◌, ◌*◌, ◌/◌, ◌%◌, ◌^◌, ◌≤◌, ◌<◌}
 use native.Mathlib.Omega.{arith}
 use native.Mathlib.Decide.{dec_lt}
 use mathlib.Core.Logic.{◌⊎◌, inl, inr}
@@ -30,7 +30,7 @@ pub length_one : (n : ℕ) → n < 10 → length (decimal n) ≡ 1
 length_one n h = ap length (decimal_one n h)
 
 -- how many digits, by a power of ten
-pub length_power : (k n : ℕ) → 10 ^ k ≤ n → n < 10 * 10 ^ k → length (decimal n) ≡ k + 1
+pub length_power : (k n : ℕ) → 10 ^ k ≤ max n 1 → max n 1 < 10 * 10 ^ k → length (decimal n) ≡ k + 1
 length_power zero n h l = length_one n (omega arith)
 length_power (suc k) n h l =
     let p : 1 ≤ 10 ^ k = one-le-pow k 10 (omega arith) in

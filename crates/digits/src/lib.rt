@@ -59,12 +59,12 @@ pub fn number_at(s: &[u8], at: usize) -> Option<(u64, usize)>
     Some((value, end))
 }
 
-// How many digits n has. One is the common case, for which the logarithm takes longer than a test.
-#[tactic(auto, using(crate::proofs::Writing::length_one, crate::proofs::Writing::length_power))]
+// How many digits n has: one for 0 too.
+#[tactic(auto, using(crate::proofs::Writing::length_power))]
 pub fn digits_in(n: u32) -> usize
     ensures { result ≡ length (decimal n) }
 {
-    if n < 10 { 1 } else { n.ilog10() as usize + 1 }
+    n.max(1).ilog10() as usize + 1
 }
 
 // The digits of n from place `at` up to place `end`, the last one first.

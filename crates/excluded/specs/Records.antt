@@ -1,13 +1,14 @@
 -- What the theorems are computed on: the small machine (1 cell at node 0, 2 tasks with nodes 1 and 2, 5 nodes, 2 of them free) with one thing in it
 -- replaced, a task's record, and tables.
 use Rattle.std.specs.Prelude.{ℕ, List, [], ◌∷◌, ◌++◌, get_or, set, replicate}
+use Rattle.tasks.specs.declared.TaskNo.{TaskNo}
 use Rattle.tasks.specs.declared.Task.{Task}
 use Rattle.tasks.specs.Records.{cell_no, node_no, no_task, with_fields, onward, probing}
 use Rattle.steps.specs.declared.Seen.{Seen}
 use Rattle.cells.specs.declared.Machine.{Machine}
+use Rattle.cells.specs.Machine.{placed}
 use Rattle.cells.specs.Free.{free_of}
 use Rattle.entries.specs.Schedule.{cut}
-use Rattle.runs.specs.Lent.{made_of}
 use Rattle.runs.specs.Run.{replies_from, notes_from, ran_from, ran_of, replies_of, buffer_of, noted_of}
 use Rattle.laws.specs.Small.{fresh}
 use Rattle.faults.specs.Benches.{computing}
@@ -21,6 +22,10 @@ bytes (e ∷ es) = e ++ bytes es
 unfoldable pub running : Unit {0}
 unfolding computing free_of cut replies_from notes_from ran_from ran_of replies_of buffer_of noted_of
 running = tt
+
+-- the machine of these numbers and tables
+abbrev pub made_of : ℕ → ℕ → ℕ → ℕ → List ℕ → List ℕ → List ℕ → List Task → Machine
+made_of n p k free cells values counts tasks = record { n = n; p = p; k = k; free = free; cells = cells; values = values; counts = counts; tasks = tasks }
 
 -- m with another number of free nodes, another K, another pointer, count or task record
 abbrev pub with_free : Machine → ℕ → Machine
@@ -88,6 +93,14 @@ values = 10 ∷ 11 ∷ 12 ∷ 13 ∷ 14 ∷ replicate 123 0
 
 abbrev pub counts : List ℕ
 counts = 1 ∷ 1 ∷ 0 ∷ 2 ∷ 0 ∷ replicate 123 0
+
+-- a machine of 1 cell, 2 tasks and 5 nodes, 2 of them free, with those values and counts, these pointers and these task records
+abbrev pub with_tables : List ℕ → List Task → Machine
+with_tables cs ts = made_of 1 2 5 2 cs values counts ts
+
+-- the machine of those tables in which task p stands with the record t, and no other task has one
+abbrev pub standing : TaskNo → Task → Machine
+standing p t = with_tables cells (set (replicate 16 no_task) (placed p).0 t)
 
 -- what its step sees if its cell is at `here`, m has count c and the cursor's node count d, in a machine of 2 tasks and 5 nodes, 2 of them free
 abbrev pub sees : ℕ → ℕ → ℕ → Seen

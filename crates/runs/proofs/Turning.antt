@@ -16,17 +16,18 @@ use Rattle.answers.specs.Types.{Answer}
 use Rattle.answers.specs.Numbers.{refusal_number, number_of, value_of}
 use Rattle.wire.specs.Bytes.{reply_of, overlaid}
 use Rattle.tasks.specs.Records.{no_task}
+use Rattle.steps.specs.Table.{answer_of}
 use Rattle.entries.specs.declared.Entry.{Entry}
 use Rattle.entries.specs.Entry.{entry_of}
 use Rattle.entries.specs.Schedule.{entries_in, entries_of}
 use Rattle.entries.proofs.Laws.{entry_read}
 use Rattle.tables.specs.Tables.{task_in}
-use Rattle.cells.specs.Machine.{refused_by, carried_of, in_range, Long}
+use Rattle.cells.specs.Machine.{placed, refused_by, in_range, Long}
 use Rattle.cells.specs.Apply.{apply_of}
 use Rattle.cells.proofs.Ranges.{keeps_ranges, keeps_lengths}
-use Rattle.cells.proofs.Untested.{unread_applied, order_applied}
+use Rattle.cells.proofs.Untested.{unread_applied, its_own, order_applied}
 use Rattle.turns.specs.Turned.{Carries, ordered_of}
-use Rattle.runs.specs.Types.{Machine, Report, Applied, Task, Refusal}
+use Rattle.runs.specs.Types.{Machine, Report, Applied, Task, Effect, Refusal}
 use Rattle.runs.specs.Counts.{accepted, kind_of, task_of}
 use Rattle.runs.specs.Run.{counted, report_of, refused_at, ran_from, reply_bytes, replies_from, free_now, notes_from, noted_by}
 use Rattle.runs.specs.OneEntry.{counted_by}
@@ -113,19 +114,26 @@ module _ {s o₀ f₀ : List ℕ} {m₀ : Machine} {o f : List ℕ} {m : Machine
     done = record { machine = m'; answer = a; task = e.task.0 }
 
     applied : apply_of m x ≡ done
-    unfolding carried_of
-    applied = order_applied m g.sound x e is ∙ rw (turned.0, turned.1) refl
+    applied = order_applied m g.sound e x is ∙ rw (turned.0, turned.1) refl
+
+    -- an accepted one has a task of its own
+    own : accepted a ≡ true → min e.task.0 15 ≡ e.task.0
+    own h = by (ordered_of m e) refl
+      where
+        by : (z : Effect) → ordered_of m e ≡ z → min e.task.0 15 ≡ e.task.0
+        by (Err y) at = absurd (false≢true (ap (λ (z : Effect). accepted (answer_of z)) (sym at) ∙ ap accepted (sym turned.1) ∙ h))
+        by (Ok d) at = its_own m g.sound e d at
 
     pub turned-back : accepted a ≡ false → r' ≡ refused_at (number_of a) r → Over s o₀ f₀ m₀ o' f' m' r'
     turned-back = stopped done applied o' wrote f' noted r'
 
-    pub taken : accepted a ≡ true → r' ≡ counted_by r e.kind (task_in m.tasks e.task).phase (task_in m'.tasks e.task).phase → Turning s o₀ f₀ m₀ o' f' m' r' (i + 1)
+    pub taken : accepted a ≡ true → r' ≡ counted_by r e.kind (task_in m.tasks (placed e.task)).phase (task_in m'.tasks (placed e.task)).phase → Turning s o₀ f₀ m₀ o' f' m' r' (i + 1)
     taken h hr =
         let read = entry_read x e is in
-        let task : (y : Machine) → task_in y.tasks e.task ≡ task_of y x = λ (y : Machine). ap (λ (k : ℕ). get_or y.tasks k no_task) read.task in
-        let counts : counted_by r e.kind (task_in m.tasks e.task).phase (task_in m'.tasks e.task).phase ≡ counted_by r (kind_of x) (task_of m x).phase (task_of m' x).phase =
-        ap (λ (k : ℕ). counted_by r k (task_in m.tasks e.task).phase (task_in m'.tasks e.task).phase) read.kind
-        ∙ ap (λ (t : Task). counted_by r (kind_of x) t.phase (task_in m'.tasks e.task).phase) (task m)
+        let task : (y : Machine) → task_in y.tasks (placed e.task) ≡ task_of y x = λ (y : Machine). ap (λ (k : ℕ). get_or y.tasks k no_task) (own h ∙ read.task) in
+        let counts : counted_by r e.kind (task_in m.tasks (placed e.task)).phase (task_in m'.tasks (placed e.task)).phase ≡ counted_by r (kind_of x) (task_of m x).phase (task_of m' x).phase =
+        ap (λ (k : ℕ). counted_by r k (task_in m.tasks (placed e.task)).phase (task_in m'.tasks (placed e.task)).phase) read.kind
+        ∙ ap (λ (t : Task). counted_by r (kind_of x) t.phase (task_in m'.tasks (placed e.task)).phase) (task m)
         ∙ ap (λ (t : Task). counted_by r (kind_of x) (task_of m x).phase t.phase) (task m') in
         went-on done applied o' wrote f' noted r' h
         (hr ∙ counts ∙ ap (λ (y : Applied). counted_by r (kind_of x) (task_of m x).phase (task_of y.machine x).phase) (sym applied)

@@ -33,10 +33,10 @@ pub fn value_at(values: &[u32], v: NodeNo) -> u32
     at(values, v.0, 0)
 }
 
-pub fn task_at(tasks: [Task; 16], p: TaskNo) -> Task
-    ensures { result ≡ task_in tasks p }
+pub fn task_at(tasks: &[Task; 16], p: TaskNo) -> Task
+    ensures { result ≡ task_in tasks.now p }
 {
-    at(&tasks, p.0, tasks::idle_owning(NodeNo(0)))
+    at(tasks, p.0, tasks::idle_owning(NodeNo(0)))
 }
 
 // Entry i of a table becomes y; nothing does past its end.
@@ -108,8 +108,8 @@ pub fn counts_ok(counts: &[u8], k: u8, p: u8) -> bool
 }
 
 // Of the first p records, and of 16 at most: the table has no more.
-pub fn tasks_ok(tasks: [Task; 16], n: u8, p: u8, k: u8) -> bool
-    ensures { result ≡ every (task_ok_in tasks n k) (min p 16) }
+pub fn tasks_ok(tasks: &[Task; 16], n: u8, p: u8, k: u8) -> bool
+    ensures { result ≡ every (task_ok_in tasks.now n k) (min p 16) }
 {
     tasks.iter().take(usize::from(p)).all(|t| t.in_range(n, k))
 }

@@ -1,8 +1,8 @@
--- The answer to the holders question, by how the test of refusal 24 came out; and a task counts at most once. Assumes nothing.
+-- The answer to the holders question, by how the test of refusal 24 came out; and how many tasks hold a node. Assumes nothing.
 use Rattle.std.specs.Prelude.{Some, None}
 use Rattle.std.specs.List.{count_by}
 use Rattle.std.proofs.lemmas.List.Recursion.{is_count_by}
-use Prim.Native.Nat.{ℕ, ◌+◌, ◌≤◌}
+use Prim.Native.Nat.{ℕ, ◌+◌}
 use native.Mathlib.Nat.{zero-add}
 use mathlib.Core.Path.{◌≡◌, refl, sym}
 use mathlib.Core.Bool.{Bool, true, false, not, cond, ◌&&◌}
@@ -10,13 +10,9 @@ use mathlib.Core.List.{List}
 use lib.Dec.{T, eqb}
 use lib.ListN.{length}
 use Rattle.tallies.specs.Tally.{bit, tally}
-use Rattle.tallies.proofs.Tally.{bit_le}
 use Rattle.tasks.specs.Types.{NodeNo, Task}
 use Rattle.tasks.specs.Phases.{holds}
 use Rattle.tasks.specs.Holders.{keeps, beyond_of, holders_of}
-
-pub keeps_le : (i : ℕ) (t : Task) → keeps i t ≤ 1
-keeps_le i t = bit_le (holds t.phase && eqb t.held.0 i)
 
 -- the tally of those that hold the node is how many they are
 pub holders_counted : (ts : List Task) (v : NodeNo) → count_by (λ t. holds t.phase && eqb t.held.0 v.0) ts ≡ tally (keeps v.0) (length ts) ts

@@ -171,10 +171,10 @@ pub fn holders(ts: &[Task], node: NodeNo) -> Option<usize>
 
 // The holders question of the first p records of a table; a table of more than 16 is refused as such a list is.
 #[tactic(auto, unfolding(crate::specs::Holders::held_among))]
-pub fn held_among(ts: [Task; 16], p: u8, node: NodeNo) -> Option<usize>
-    ensures { result ≡ held_among ts p node }
+pub fn held_among(ts: &[Task; 16], p: u8, node: NodeNo) -> Option<usize>
+    ensures { result ≡ held_among ts.now p node }
 {
-    holders(ts.get(..p as usize)?, node)
+    holders(ts.get(..usize::from(p))?, node)
 }
 
 pub fn holders_number(h: Option<usize>) -> u8

@@ -1,11 +1,10 @@
 -- Bytes laid over others: where there is room, one after the other, and store by store. Assumes nothing.
-use Prim.Native.Nat.{ℕ, suc, ◌+◌, ◌-◌, ◌≤◌, ◌<◌}
+use Prim.Native.Nat.{ℕ, suc, ◌+◌, ◌≤◌, ◌<◌}
 use mathlib.Core.Path.{◌≡◌, refl, sym, ap, ◌∙◌}
 use mathlib.Core.List.{List, [], ◌∷◌, ◌++◌, append_assoc, append-nil}
 use native.Mathlib.Nat.{add-zero, zero-add, suc_inj, suc-ne-zero}
 use native.Mathlib.Omega.{arith}
 use native.Mathlib.Decide.{dec_le}
-use lib.Dec.{leb}
 use lib.ListN.{length, get_or, take, drop, set, length-append, length-drop, take-append-drop, length-set}
 use lib.Seq.{drop-cons, drop-set-lt, take-set-le, get_or-set_same, drop-drop, take_at, drop-append-add, length-take-le, sets-eq}
 use borrow.Author.Tests.{eqb-false, le-leb, lt-leb}
@@ -83,10 +82,6 @@ pair [] h = absurd (eqb-false 0 2 refl h)
 pair (a ∷ []) h = absurd (eqb-false 1 2 refl h)
 pair (a ∷ b ∷ []) h = refl
 pair (a ∷ b ∷ c ∷ l) h = absurd (suc-ne-zero _ (suc_inj (suc_inj h)))
-
--- a test of a difference, said of a sum
-pub leb_minus : (a n k : ℕ) → n ≤ k → leb a (k - n) ≡ leb (a + n) k
-leb_minus a n k h = elim (dec_le (a + n) k) [ yes y ↦ rw (le-leb (a + n) k y, le-leb a (k - n) (omega arith)) | no y ↦ rw (lt-leb (a + n) k (omega arith), lt-leb a (k - n) (omega arith)) ]
 
 -- a store, and bytes laid up to it
 pub over_last : (o : List ℕ) (at : ℕ) (b : List ℕ) (x : ℕ) → at + length b < length o → overlaid (set o (at + length b) x) at b ≡ overlaid o at (b ++ x ∷ [])

@@ -70,9 +70,9 @@ loop-i-preserved c =
       steps.0 ∙ l.invariant.2,
       bytes-left c.args.s.now l.i-iterator.count _ _ _ _ l.invariant.2 l.invariant.3 steps.1.0 steps.1.1 ∙ rw next refl,
       rw next
-      (taken l.invariant.4 more c.requires.1 _ bytes c.in-Ok.e (sym c.read_entry.ensures ∙ c.in-Ok.is) c.turn-a.new.m c.turn-a.result c.turn-a.ensures
-      _ (c.reply-in-loop-i.ensures ∙ rw (at, n, v) refl) _ (c.note-in-loop-i.ensures ∙ rw at refl) _ (no-error _ c.if-is_err.ensures.negation)
-      (c.counted-report.ensures ∙ rw (c.task-from.ensures, c.task.ensures) refl)),
+          (taken l.invariant.4 more c.requires.1 _ bytes c.in-Ok.e (sym c.read_entry.ensures ∙ c.in-Ok.is) c.turn-a.new.m c.turn-a.result c.turn-a.ensures
+          _ (c.reply-in-loop-i.ensures ∙ rw (at, n, v) refl) _ (c.note-in-loop-i.ensures ∙ rw at refl) _ (no-error _ c.if-is_err.ensures.negation)
+          (c.counted-report.ensures ∙ rw (c.task-from.ensures, c.task.ensures) refl)),
     )
 
 pub returns : goal.returns

@@ -1,8 +1,6 @@
 -- `turn`: what is asked, done.
-use Rattle.std.proofs.Common.{◌∙◌, sym, refl, ap, Ok}
+use Rattle.std.proofs.Common.{◌∙◌, refl, ap, Ok}
 use Rattle.std.proofs.lemmas.Result.{err_from_is_err_and}
-use Rattle.steps.specs.Table.{effect_of}
-use Rattle.cells.specs.Machine.{seen_of}
 use Rattle.turns.proofs.Picks.{ordered}
 use Rattle.turns.proofs.turn.Goals as goal
 
