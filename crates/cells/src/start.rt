@@ -8,7 +8,7 @@ use crate::Machine;
 use answers::Refusal;
 use tasks::{NodeNo, Task, TaskNo};
 
-// A setup's answer and the sizes of its machine, which are 0 if it is refused.
+// A setup's answer and the sizes of its machine, which are 0 if it is refused: theorems of `excluded` say so.
 #[derive(Clone, Copy)]
 pub struct Head {
     pub n: u8,
