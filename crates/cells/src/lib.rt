@@ -30,7 +30,7 @@ pub struct Machine {
     pub tasks: [Task; 16],
 }
 
-// A machine beside the reply to an entry: the answer, with its number and value, and the task byte.
+// A machine beside the reply to an entry: the answer, with its number and value, and the task byte. Document 01 has the machine handed back on a refusal too.
 #[derive(Clone, Copy)]
 pub struct Applied {
     pub machine: Machine,
@@ -38,7 +38,7 @@ pub struct Applied {
     pub task: u8,
 }
 
-// A machine beside a setup's answer: how many bytes it used, as later bytes belong to the schedule.
+// A machine beside a setup's answer: how many bytes it used, as later bytes belong to the schedule. A refused one has a machine too, all zero.
 #[derive(Clone, Copy)]
 pub struct SetUp {
     pub machine: Machine,
@@ -68,14 +68,14 @@ pub fn setup_bytes(a: Result<usize, Refusal>) -> usize
     a.unwrap_or(0)
 }
 
-// What an entry does to its task, and the task byte of its reply.
+// What an entry does to its task, and the task byte of its reply, which a refusal has too.
 #[derive(Clone, Copy)]
 pub struct Decision {
     pub task: u8,
     pub effect: Effect,
 }
 
-// A step's one write, put into the table that it belongs to; the other tables are left alone.
+// A step's one write, put into the table that it belongs to; the other tables are left alone. A function for each, as each has a case of `Write` of its own.
 
 pub fn write_cells(cells: &mut [u8; 64], w: Write)
     ensures { cells.new ≡ cells_by (put_in 64) w cells.old }

@@ -8,7 +8,7 @@ use crate::Machine;
 use answers::Refusal;
 use tasks::{NodeNo, Task, TaskNo};
 
-// A setup's answer and the sizes of its machine, which are 0 if it is refused.
+// A setup's answer and the sizes of its machine, which are 0 if it is refused: theorems of `excluded` say so.
 #[derive(Clone, Copy)]
 pub struct Head {
     pub n: u8,
@@ -75,8 +75,7 @@ pub fn read_head(s: &[u8]) -> Head
     if !wire::starts_with(s, wire::SETUP) {
         return refused_head(Refusal::WrongMark);
     }
-    let spare = s[5];
-    if spare != 0 {
+    if s[5] != 0 {
         return refused_head(Refusal::NotZero);
     }
     let n = s[2];
@@ -90,9 +89,9 @@ pub fn read_head(s: &[u8]) -> Head
         return refused_head(Refusal::TooShort);
     }
     Head {
-        n: n,
-        p: p,
-        k: k,
+        n,
+        p,
+        k,
         answer: Ok(used),
     }
 }

@@ -13,7 +13,7 @@ ghost use Rattle.runs.specs.OneEntry.{load_begun, load_step, went_of, counted_by
 use answers::Refusal;
 use cells::Machine;
 
-// Entries accepted, the refusal or 0, loads begun, load steps, turned-back checks, swaps that took: all for one run.
+// Entries accepted, the refusal or 0, loads begun, load steps, turned-back checks, swaps that took: all for one run. Document 01 has the six as numbers.
 #[derive(Clone, Copy)]
 pub struct Report {
     pub accepted: u32,

@@ -75,7 +75,7 @@ pub fn slot(p: TaskNo) -> usize
     usize::from(p.0.min(15))
 }
 
-// The range test (22), table by table. The loops over numbers look at every place, so that the compiler can look at many at once.
+// The range test (22), table by table. The loops are over numbers, as a place past a table's end counts as 0; the two differ in their table's kind of number.
 
 #[tactic(auto, unfolding(crate::specs::Tables::sizes_ok))]
 pub fn sizes_ok(n: u8, p: u8, k: u8) -> bool
@@ -114,7 +114,7 @@ pub fn tasks_ok(tasks: &[Task; 16], n: u8, p: u8, k: u8) -> bool
     tasks.iter().take(usize::from(p)).all(|t| t.in_range(n, k))
 }
 
-// The fresh machine, table by table: the first n places are filled.
+// The fresh machine, table by table: the first n places are filled. There are three, as each is one line in a `for`.
 
 // Cell i points at node i.
 #[tactic(auto, using(crate::proofs::Laws::put_more), unfolding(tallies::specs::Lists::fill_to))]
