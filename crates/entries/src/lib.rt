@@ -111,7 +111,7 @@ pub fn asks(n: u8, p: u8, e: Entry) -> Result<Asked, Refusal>
             Ok(Asked::ToStore(e.cell, e.value))
         }
         _ => {
-            if e.cell.0 != 0 {
+            if e.cell != CellNo(0) {
                 return Err(Refusal::NotZero);
             }
             if e.value != 0 {
@@ -187,7 +187,7 @@ pub fn linked_call(t: Task, c: Call) -> Effect
     begin_call(t, c)
 }
 
-// What an entry does to its task t in a machine of n cells and p tasks, or its first refusal after 20 and 19.
+// What an entry does to its task t in a machine of n cells and p tasks, or its first refusal after 20 and 19. These go together nowhere else, so there is no struct for them.
 #[tactic(auto)]
 pub fn order(n: u8, p: u8, e: Entry, t: Task, s: Seen) -> Effect
     ensures { result ≡ order_of n p e t s }

@@ -18,7 +18,7 @@ fn holding(phase: u8, m: u8) -> Task {
     }
 }
 
-// A list of n linked records, each with node m held, asked for node v.
+// A list of n linked records, each with node m held, asked for node v. These go together nowhere else, so there is no struct for them.
 fn alike(rt: &impl Print, label: &str, n: usize, m: u8, v: u8) -> io::Result<()>
     requires { n ≤ 17 }
 {

@@ -51,7 +51,7 @@ fn field_at(s: &[u8], at: usize, close: u8) -> Option<(u64, usize)>
     Some((value, end + 1))
 }
 
-// The entry of a line's numbers, and the place behind the line; or 31 for a number too large.
+// The entry of a line's numbers, and the place behind the line; or 31 for a number too large: one test for the four, in place of a `try_from` for each. These go together nowhere else, so there is no struct for them.
 #[tactic(auto, unfolding(crate::specs::Steps::sized))]
 fn sized(
     task: u64,

@@ -81,7 +81,7 @@ pub fn put_word(out: &mut [u8], at: usize, value: u32)
     out[at..at + 4].copy_from_slice(&value.to_le_bytes());
 }
 
-// A reply record.
+// A reply record. These go together nowhere else, so there is no struct for them.
 #[tactic(auto, using(crate::proofs::Laws::no_room, crate::proofs::Laws::two, crate::proofs::Laws::framed))]
 pub fn put_reply(out: &mut [u8], at: usize, number: u8, task: u8, value: u32)
     ensures { out.new ≡ fitted out.old at (reply_of number task value) }
