@@ -17,8 +17,8 @@ use Rattle.steps.specs.declared.Seen.{Seen}
 use Rattle.cells.specs.declared.Machine.{Machine}
 use Rattle.cells.specs.declared.Applied.{Applied}
 use Rattle.cells.specs.Apply.{apply_of}
-use Rattle.cells.proofs.seen.Reads as seen
-use Rattle.cells.proofs.tables_ok.Reads as tables-ok
+use Rattle.cells.proofs.Machine.seen.Reads as seen
+use Rattle.cells.proofs.Machine.tables_ok.Reads as tables-ok
 use Rattle.cells.proofs.Machine.apply.Reads as apply
 use Rattle.runs.specs.Counts.{accepted}
 use Rattle.laws.specs.Small.{fresh}
@@ -26,12 +26,12 @@ use Rattle.laws.specs.Bytes.{go, load}
 use Rattle.laws.proofs.Entries.{by_entry, refused_leaves}
 use Rattle.faults.specs.Benches.{computing}
 use Rattle.excluded.specs.Lent.{lent, never}
-use Rattle.excluded.specs.Records.{with_cell, with_count, pointer_at_k, count_past_most, free_past_k, pool_too_small, at, cells, values, counts, task_at, seeking, in_store}
+use Rattle.excluded.specs.Records.{with_cell, with_count, pointer_at_k, count_past_most, free_past_k, pool_too_small, at, cells, benched, task_at, seeking, in_store}
 
 module _ (κs : Lfts 1) (z : Seen) where
-  -- the task of the tables, in phase 3, with these pointers
+  -- the task of the bench, in phase 3, with these pointers
   abbrev Sees : List ℕ → Type 0
-  Sees cs = seen.Post κs (lent cs, (lent values, (lent counts, (at 3, (2, (5, (2, tt))))))) z (lent cs, (lent values, (lent counts, (at 3, (2, (5, (2, tt)))))))
+  Sees cs = seen.Post κs (lent (benched cs (at 3)), (at 3, tt)) z (lent (benched cs (at 3)), (at 3, tt))
 
   -- m in place of the cell's node, so that every check passes
   pub sees_m_for_here : Sees (set cells 0 2) → z.here.0 ≡ 3 → ⊥
@@ -52,9 +52,7 @@ module _ (κs : Lfts 1) (z : Seen) where
 module _ (κs : Lfts 1) where
   -- the tables of m are found to be in range, or not
   abbrev Finds : Machine → Bool → Type 0
-  Finds m b =
-      tables-ok.Post κs (m.n, (m.p, (m.k, (m.free, (lent m.cells, (lent m.counts, tt)))))) b
-      (m.n, (m.p, (m.k, (m.free, (lent m.cells, (lent m.counts, tt))))))
+  Finds m b = tables-ok.Post κs (lent m, tt) b (lent m, tt)
 
   -- a test that leaves the pointers out
   pub pointer_at_k_passes : Finds pointer_at_k true → ⊥

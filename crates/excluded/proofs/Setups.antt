@@ -20,7 +20,6 @@ use Rattle.tables.proofs.Laws.{sizes_bounds}
 use Rattle.cells.specs.declared.Machine.{Machine}
 use Rattle.cells.specs.declared.SetUp.{SetUp}
 use Rattle.cells.specs.declared.start.Head.{Head}
-use Rattle.cells.specs.declared.start.Laid.{Laid}
 use Rattle.cells.specs.Setup.{blank_of, fresh_of, refused_setup, setup_of, head_of}
 use Rattle.cells.proofs.Setups.{Fits, accepted, by_tests, setup-fresh, head_fits, setup_uses}
 use Rattle.cells.proofs.Fresh.{fresh-cell, fresh_cell_past, fresh-value, fresh_value_past, fresh_count, fresh_count_past, fresh-task}
@@ -207,63 +206,63 @@ module _ (s : List ℕ) where
   unfolding fresh_of
   all_nodes = omega (arith, ap (λ m. m.free) (setup-fresh s), fits.2)
 
--- THE TABLES
+-- THE LENT RECORD
 
--- z is handed back; the lent tables are cs, vs and ns at entry, whatever they hold, and cells, values and counts at exit
-module _ (κs : Lfts 4) (z : Laid) (cs vs ns cells values counts : List ℕ) where
+-- a is the answer; the lent machine is was at entry, whatever it holds, and z at exit
+module _ (κs : Lfts 2) (a : Result ℕ Refusal) (was z : Machine) where
   -- the setup of the bytes s
   abbrev Lays : List ℕ → Type 0
-  Lays s = fill.Post κs (lent s, (lent_mut cs, (lent_mut vs, (lent_mut ns, tt)))) z (lent s, (lent_mut cells, (lent_mut values, (lent_mut counts, tt))))
+  Lays s = fill.Post κs (lent_mut was, (lent s, tt)) a (lent_mut z, (lent s, tt))
 
-  blank : (s : List ℕ) (r : Refusal) → Lays s → z.answer ≡ Err r → (setup_of s).machine ≡ blank_of
-  blank s r q a = setup_blank s r (sym (ap (λ x. x.answer) q.0) ∙ a)
+  blank : (s : List ℕ) (r : Refusal) → Lays s → a ≡ Err r → (setup_of s).machine ≡ blank_of
+  blank s r q h = setup_blank s r (sym q.1 ∙ h)
 
   -- a refused setup after which a cell holds what it held
-  pub refused_setup_keeps_cell : (s : List ℕ) (r : Refusal) (i : ℕ) → Lays s → z.answer ≡ Err r → get_or cells i 0 ≢ 0 → ⊥
-  refused_setup_keeps_cell s r i q a h = h (ap (λ l. get_or l i 0) q.1 ∙ cell-past s i (omega (arith, ap (λ m. m.n) (blank s r q a))))
+  pub refused_setup_keeps_cell : (s : List ℕ) (r : Refusal) (i : ℕ) → Lays s → a ≡ Err r → get_or z.cells i 0 ≢ 0 → ⊥
+  refused_setup_keeps_cell s r i q e h = h (ap (λ m. get_or m.cells i 0) q.0 ∙ cell-past s i (omega (arith, ap (λ m. m.n) (blank s r q e))))
 
   -- a refused setup after which a node has the value that it had
-  pub refused_setup_keeps_value : (s : List ℕ) (r : Refusal) (i : ℕ) → Lays s → z.answer ≡ Err r → get_or values i 0 ≢ 0 → ⊥
-  refused_setup_keeps_value s r i q a h = h (ap (λ l. get_or l i 0) q.2 ∙ value-past s i (omega (arith, ap (λ m. m.n) (blank s r q a))))
+  pub refused_setup_keeps_value : (s : List ℕ) (r : Refusal) (i : ℕ) → Lays s → a ≡ Err r → get_or z.values i 0 ≢ 0 → ⊥
+  refused_setup_keeps_value s r i q e h = h (ap (λ m. get_or m.values i 0) q.0 ∙ value-past s i (omega (arith, ap (λ m. m.n) (blank s r q e))))
 
   -- a refused setup after which a node has the count that it had
-  pub refused_setup_keeps_count : (s : List ℕ) (r : Refusal) (i : ℕ) → Lays s → z.answer ≡ Err r → get_or counts i 0 ≢ 0 → ⊥
-  refused_setup_keeps_count s r i q a h = h (ap (λ l. get_or l i 0) q.3 ∙ count_past s i (omega (arith, ap (λ m. m.n) (blank s r q a), ap (λ m. m.p) (blank s r q a))))
+  pub refused_setup_keeps_count : (s : List ℕ) (r : Refusal) (i : ℕ) → Lays s → a ≡ Err r → get_or z.counts i 0 ≢ 0 → ⊥
+  refused_setup_keeps_count s r i q e h = h (ap (λ m. get_or m.counts i 0) q.0 ∙ count_past s i (omega (arith, ap (λ m. m.n) (blank s r q e), ap (λ m. m.p) (blank s r q e))))
 
   -- an accepted setup with other sizes than its bytes have
-  pub laid_with_other_sizes : (s : List ℕ) (u : ℕ) → Lays s → z.answer ≡ Ok u → z.n ∷ z.p ∷ z.k ∷ [] ≢ get_or s 2 0 ∷ get_or s 3 0 ∷ get_or s 4 0 ∷ [] → ⊥
-  laid_with_other_sizes s u q a h =
-      let t = taken s u (sym (ap (λ x. x.answer) q.0) ∙ a) in
+  pub laid_with_other_sizes : (s : List ℕ) (u : ℕ) → Lays s → a ≡ Ok u → z.n ∷ z.p ∷ z.k ∷ [] ≢ get_or s 2 0 ∷ get_or s 3 0 ∷ get_or s 4 0 ∷ [] → ⊥
+  laid_with_other_sizes s u q e h =
+      let t = taken s u (sym q.1 ∙ e) in
       h (rw (ap (λ x. x.n) q.0 ∙ t.n, ap (λ x. x.p) q.0 ∙ t.p, ap (λ x. x.k) q.0 ∙ t.k))
 
   -- a cell below N that is at another node than its own
-  pub cell_at_other_node : (s : List ℕ) (i : ℕ) → Lays s → i < z.n → get_or cells i 0 ≢ i → ⊥
-  cell_at_other_node s i q l h = h (ap (λ t. get_or t i 0) q.1 ∙ cell_at s i (omega (arith, l, ap (λ x. x.n) q.0)))
+  pub cell_at_other_node : (s : List ℕ) (i : ℕ) → Lays s → i < z.n → get_or z.cells i 0 ≢ i → ⊥
+  cell_at_other_node s i q l h = h (ap (λ m. get_or m.cells i 0) q.0 ∙ cell_at s i (omega (arith, l, ap (λ x. x.n) q.0)))
 
   -- a cell past N that holds what it held
-  pub cell_past_n_kept : (s : List ℕ) (i : ℕ) → Lays s → z.n ≤ i → get_or cells i 0 ≢ 0 → ⊥
-  cell_past_n_kept s i q l h = h (ap (λ t. get_or t i 0) q.1 ∙ cell-past s i (omega (arith, l, ap (λ x. x.n) q.0)))
+  pub cell_past_n_kept : (s : List ℕ) (i : ℕ) → Lays s → z.n ≤ i → get_or z.cells i 0 ≢ 0 → ⊥
+  cell_past_n_kept s i q l h = h (ap (λ m. get_or m.cells i 0) q.0 ∙ cell-past s i (omega (arith, l, ap (λ x. x.n) q.0)))
 
   -- a cell's node with another value than the cell's own bytes have
-  pub value_of_other_bytes : (s : List ℕ) (i : ℕ) → Lays s → i < z.n → get_or values i 0 ≢ word_at s (6 + 4 * i) → ⊥
-  value_of_other_bytes s i q l h = h (ap (λ t. get_or t i 0) q.2 ∙ value-at s i (omega (arith, l, ap (λ x. x.n) q.0)))
+  pub value_of_other_bytes : (s : List ℕ) (i : ℕ) → Lays s → i < z.n → get_or z.values i 0 ≢ word_at s (6 + 4 * i) → ⊥
+  value_of_other_bytes s i q l h = h (ap (λ m. get_or m.values i 0) q.0 ∙ value-at s i (omega (arith, l, ap (λ x. x.n) q.0)))
 
   -- a value of 7 that is read with its bytes the other way round
-  pub value_read_backwards : Lays small → get_or values 0 0 ≡ 7 * 16777216 → ⊥
+  pub value_read_backwards : Lays small → get_or z.values 0 0 ≡ 7 * 16777216 → ⊥
   unfolding computing
-  value_read_backwards q h = omega (arith, ap (λ t. get_or t 0 0) q.2, h)
+  value_read_backwards q h = omega (arith, ap (λ m. get_or m.values 0 0) q.0, h)
 
   -- a node past the cells' own that has the value that it had
-  pub value_past_n_kept : (s : List ℕ) (i : ℕ) → Lays s → z.n ≤ i → get_or values i 0 ≢ 0 → ⊥
-  value_past_n_kept s i q l h = h (ap (λ t. get_or t i 0) q.2 ∙ value-past s i (omega (arith, l, ap (λ x. x.n) q.0)))
+  pub value_past_n_kept : (s : List ℕ) (i : ℕ) → Lays s → z.n ≤ i → get_or z.values i 0 ≢ 0 → ⊥
+  value_past_n_kept s i q l h = h (ap (λ m. get_or m.values i 0) q.0 ∙ value-past s i (omega (arith, l, ap (λ x. x.n) q.0)))
 
   -- a node of a cell or a task whose count isn't 1, be it the last of them, N+P-1
-  pub owned_node_uncounted : (s : List ℕ) (i : ℕ) → Lays s → i < z.n + z.p → get_or counts i 0 ≢ 1 → ⊥
-  owned_node_uncounted s i q l h = h (ap (λ t. get_or t i 0) q.3 ∙ count_at s i (omega (arith, l, ap (λ x. x.n) q.0, ap (λ x. x.p) q.0)))
+  pub owned_node_uncounted : (s : List ℕ) (i : ℕ) → Lays s → i < z.n + z.p → get_or z.counts i 0 ≢ 1 → ⊥
+  owned_node_uncounted s i q l h = h (ap (λ m. get_or m.counts i 0) q.0 ∙ count_at s i (omega (arith, l, ap (λ x. x.n) q.0, ap (λ x. x.p) q.0)))
 
   -- a node of nobody that has a count, be it the first of them, N+P
-  pub free_node_counted : (s : List ℕ) (i : ℕ) → Lays s → z.n + z.p ≤ i → get_or counts i 0 ≢ 0 → ⊥
-  free_node_counted s i q l h = h (ap (λ t. get_or t i 0) q.3 ∙ count_past s i (omega (arith, l, ap (λ x. x.n) q.0, ap (λ x. x.p) q.0)))
+  pub free_node_counted : (s : List ℕ) (i : ℕ) → Lays s → z.n + z.p ≤ i → get_or z.counts i 0 ≢ 0 → ⊥
+  free_node_counted s i q l h = h (ap (λ m. get_or m.counts i 0) q.0 ∙ count_past s i (omega (arith, l, ap (λ x. x.n) q.0, ap (λ x. x.p) q.0)))
 
   -- a task i that owns another node than N+i, as if two tasks owned one
   pub task_owns_other_node : (s : List ℕ) (i : ℕ) → Lays s → i < z.p → (get_or z.tasks i no_task).own.0 ≢ z.n + i → ⊥

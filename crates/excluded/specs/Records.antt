@@ -7,7 +7,6 @@ use Rattle.steps.specs.declared.Seen.{Seen}
 use Rattle.cells.specs.declared.Machine.{Machine}
 use Rattle.cells.specs.Free.{free_of}
 use Rattle.entries.specs.Schedule.{cut}
-use Rattle.runs.specs.Lent.{made_of}
 use Rattle.runs.specs.Run.{replies_from, notes_from, ran_from, ran_of, replies_of, buffer_of, noted_of}
 use Rattle.laws.specs.Small.{fresh}
 use Rattle.faults.specs.Benches.{computing}
@@ -21,6 +20,10 @@ bytes (e ∷ es) = e ++ bytes es
 unfoldable pub running : Unit {0}
 unfolding computing free_of cut replies_from notes_from ran_from ran_of replies_of buffer_of noted_of
 running = tt
+
+-- a machine of these parts
+abbrev pub made_of : ℕ → ℕ → ℕ → ℕ → List ℕ → List ℕ → List ℕ → List Task → Machine
+made_of n p k free cells values counts tasks = record { n = n; p = p; k = k; free = free; cells = cells; values = values; counts = counts; tasks = tasks }
 
 -- m with another number of free nodes, another K, another pointer, count or task record
 abbrev pub with_free : Machine → ℕ → Machine
@@ -92,3 +95,7 @@ counts = 1 ∷ 1 ∷ 0 ∷ 2 ∷ 0 ∷ replicate 123 0
 -- what its step sees if its cell is at `here`, m has count c and the cursor's node count d, in a machine of 2 tasks and 5 nodes, 2 of them free
 abbrev pub sees : ℕ → ℕ → ℕ → Seen
 sees here c d = record { here = node_no here; held_count = c; cursor_count = d; held_value = 13; tasks = 2; nodes = 5; free = 2 }
+
+-- a machine of 1 cell, 2 tasks and 5 nodes, 2 of them free, with the cell's pointers cs, whose task 0 has the record t
+abbrev pub benched : List ℕ → Task → Machine
+benched cs t = made_of 1 2 5 2 cs values counts (t ∷ replicate 15 no_task)
