@@ -16,24 +16,24 @@ pub enum Reply {
     Gone,
 }
 
-// Why nothing was done, by the rule that was broken; the numbers are in specs/Numbers.antt.
+// Why nothing was done, by the rule that was broken, with the number of specs/Numbers.antt.
 #[derive(Clone, Copy)]
 pub enum Refusal {
-    Sizes,
-    NoTask,
-    NoKind,
-    NoCell,
-    NotZero,
-    NotNow,
-    NoStep,
-    WrongMark,
-    TooShort,
-    NoRoom,
-    Damaged,
-    TooLong,
-    NotALine,
-    TooLarge,
-    OutputShort,
+    Sizes = 11,
+    NoTask = 12,
+    NoKind = 13,
+    NoCell = 14,
+    NotZero = 15,
+    NotNow = 16,
+    NoStep = 17,
+    WrongMark = 19,
+    TooShort = 20,
+    NoRoom = 21,
+    Damaged = 22,
+    TooLong = 23,
+    NotALine = 30,
+    TooLarge = 31,
+    OutputShort = 32,
 }
 
 // A reply, or why there is none.
@@ -68,23 +68,7 @@ impl From<Refusal> for u8 {
     ghost from_gives = { λ r n. n ≡ refusal_number r };
 
     fn from(r: Refusal) -> u8 {
-        match r {
-            Refusal::Sizes => 11,
-            Refusal::NoTask => 12,
-            Refusal::NoKind => 13,
-            Refusal::NoCell => 14,
-            Refusal::NotZero => 15,
-            Refusal::NotNow => 16,
-            Refusal::NoStep => 17,
-            Refusal::WrongMark => 19,
-            Refusal::TooShort => 20,
-            Refusal::NoRoom => 21,
-            Refusal::Damaged => 22,
-            Refusal::TooLong => 23,
-            Refusal::NotALine => 30,
-            Refusal::TooLarge => 31,
-            Refusal::OutputShort => 32,
-        }
+        r as u8
     }
 }
 

@@ -21,8 +21,6 @@ use Rattle.cells.proofs.free.free_value.Kinds as free-value·k
 use Rattle.cells.proofs.free.free_value.Reads as free-value
 use Rattle.cells.proofs.Machine.task.Kinds as task·k
 use Rattle.cells.proofs.Machine.task.Reads as task
-use Rattle.cells.proofs.Machine.sound.Kinds as sound·k
-use Rattle.cells.proofs.Machine.sound.Reads as sound
 use Rattle.cells.proofs.Machine.carry.Kinds as carry·k
 use Rattle.cells.proofs.Machine.carry.Reads as carry
 use Rattle.cells.proofs.start.blank.Kinds as blank·k
@@ -78,9 +76,6 @@ task_at_one κs a z z' ws ws' p q q' = (q ∙ sym q', refl)
 
 pub task_one : One task·k.ps task·k.r task.Pre task.Post
 task_one κs a z z' ws ws' p q q' = (q ∙ sym q', refl)
-
-pub sound_one : One sound·k.ps sound·k.r sound.Pre sound.Post
-sound_one κs a z z' ws ws' p q q' = (q ∙ sym q', refl)
 
 -- the answer, and every place of the machine
 pub carry_one : One carry·k.ps carry·k.r carry.Pre carry.Post

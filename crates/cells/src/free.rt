@@ -9,10 +9,7 @@ use answers::Refusal;
 pub(crate) fn pool_ok(n: u8, p: u8, k: u8, free: u8) -> bool
     ensures { result ≡ pool_ok n p k free }
 {
-    if !tables::sizes_ok(n, p, k) {
-        return false;
-    }
-    free <= k
+    tables::sizes_ok(n, p, k) && free <= k
 }
 
 // The free-nodes question, handed four numbers of a record and none of its tables: it may be asked after every entry.

@@ -30,7 +30,7 @@ pub struct Machine {
     pub tasks: [Task; 16],
 }
 
-// A machine beside the reply to an entry: the answer, with its number and value, and the task byte.
+// A machine beside the reply to an entry: the answer, with its number and value, and the task byte. Document 01 has the machine handed back on a refusal too.
 #[derive(Clone, Copy)]
 pub struct Applied {
     pub machine: Machine,
@@ -38,7 +38,7 @@ pub struct Applied {
     pub task: u8,
 }
 
-// A machine beside a setup's answer: how many bytes it used, as later bytes belong to the schedule.
+// A machine beside a setup's answer: how many bytes it used, as later bytes belong to the schedule. A refused one has a machine too, all zero.
 #[derive(Clone, Copy)]
 pub struct SetUp {
     pub machine: Machine,
@@ -68,14 +68,14 @@ pub fn setup_bytes(a: Result<usize, Refusal>) -> usize
     a.unwrap_or(0)
 }
 
-// What an entry does to its task, and the task byte of its reply.
+// What an entry does to its task, and the task byte of its reply, which a refusal has too.
 #[derive(Clone, Copy)]
 pub struct Decision {
     pub task: u8,
     pub effect: Effect,
 }
 
-// A step's one write, put into the table that it belongs to; the other tables are left alone.
+// A step's one write, put into the table that it belongs to; the other tables are left alone. A function for each, as each has a case of `Write` of its own.
 
 pub fn write_cells(cells: &mut [u8; 64], w: Write)
     ensures { cells.new ≡ cells_by (put_in 64) w cells.old }
@@ -112,13 +112,13 @@ pub fn write_free(free: u8, w: Write) -> u8
 }
 
 impl Machine {
-    pub fn task_at(self, p: TaskNo) -> Task
-        ensures { result ≡ task_in self.tasks p }
+    pub fn task_at(&self, p: TaskNo) -> Task
+        ensures { result ≡ task_in self.now.tasks p }
     {
-        tables::task_at(self.tasks, p)
+        tables::task_at(&self.tasks, p)
     }
 
-    // The same of a machine that is lent, where a number past the 16th stands for the last: so no branch is taken on it.
+    // The same, where a number past the 16th stands for the last: so no branch is taken on it.
     pub fn task(&self, p: TaskNo) -> Task
         ensures { result ≡ task_in self.now.tasks (placed p) }
     {
@@ -149,18 +149,11 @@ impl Machine {
             && tables::counts_ok(&self.counts, self.k, self.p)
     }
 
-    // The range test (22) of a machine that is lent.
-    pub fn sound(&self) -> bool
+    // The range test (22).
+    pub fn in_range(&self) -> bool
         ensures { result ≡ in_range self.now }
     {
-        self.tables_ok() && tables::tasks_ok(self.tasks, self.n, self.p, self.k)
-    }
-
-    // The range test (22).
-    pub fn in_range(self) -> bool
-        ensures { result ≡ in_range self }
-    {
-        self.sound()
+        self.tables_ok() && tables::tasks_ok(&self.tasks, self.n, self.p, self.k)
     }
 
     // The one place where an effect is written back: it holds the task's record and the one place that changes. A refusal writes nothing.
@@ -182,7 +175,7 @@ impl Machine {
     fn decided(&self, s: &[u8]) -> Decision
         ensures { result ≡ decision_of self.now s.now }
     {
-        if !self.sound() {
+        if !self.in_range() {
             return Decision {
                 task: 0,
                 effect: Err(Refusal::Damaged),
@@ -219,9 +212,9 @@ impl Machine {
     }
 
     // The holders question, asked of the record's own tasks.
-    pub fn holders(self, v: NodeNo) -> Option<usize>
-        ensures { result ≡ held_among self.tasks self.p v }
+    pub fn holders(&self, v: NodeNo) -> Option<usize>
+        ensures { result ≡ held_among self.now.tasks self.now.p v }
     {
-        tasks::held_among(self.tasks, self.p, v)
+        tasks::held_among(&self.tasks, self.p, v)
     }
 }

@@ -8,7 +8,7 @@ use crate::Machine;
 use answers::Refusal;
 use tasks::{NodeNo, Task, TaskNo};
 
-// A setup's answer and the sizes of its machine, which are 0 if it is refused.
+// A setup's answer and the sizes of its machine, which are 0 if it is refused: theorems of `excluded` say so.
 #[derive(Clone, Copy)]
 pub struct Head {
     pub n: u8,
@@ -34,18 +34,14 @@ pub fn blank() -> Machine
 }
 
 // Task i owns node n+i.
+#[tactic(auto, using(tallies::proofs::Lists::fill_none))]
 fn owners(n: u8, p: u8) -> [Task; 16]
     requires { (n ≤ 64) × (p ≤ 16) }
     ensures { result ≡ fill_to (λ (i : ℕ). idle_owning (node_no (n + i))) p (replicate 16 no_task) }
 {
-    let t = tasks::idle_owning(NodeNo(0));
-    let mut ts = [t; 16];
-    let mut i: u8 = 0;
-    while i < p {
-        let u = tasks::idle_owning(NodeNo(n + i));
-        let j = tables::slot(TaskNo(i));
-        ts[j] = u;
-        i += 1;
+    let mut ts = [tasks::idle_owning(NodeNo(0)); 16];
+    for i in 0..p {
+        ts[tables::slot(TaskNo(i))] = tasks::idle_owning(NodeNo(n + i));
     }
     ts
 }
@@ -54,7 +50,7 @@ fn owners(n: u8, p: u8) -> [Task; 16]
 fn setup_len(n: u8) -> usize
     ensures { result ≡ 6 + 4 * n }
 {
-    6 + 4 * (n as usize)
+    6 + 4 * usize::from(n)
 }
 
 fn refused_head(r: Refusal) -> Head
@@ -79,8 +75,7 @@ pub fn read_head(s: &[u8]) -> Head
     if !wire::starts_with(s, wire::SETUP) {
         return refused_head(Refusal::WrongMark);
     }
-    let spare = s[5];
-    if spare != 0 {
+    if s[5] != 0 {
         return refused_head(Refusal::NotZero);
     }
     let n = s[2];
@@ -94,9 +89,9 @@ pub fn read_head(s: &[u8]) -> Head
         return refused_head(Refusal::TooShort);
     }
     Head {
-        n: n,
-        p: p,
-        k: k,
+        n,
+        p,
+        k,
         answer: Ok(used),
     }
 }

@@ -80,7 +80,7 @@ fn put_digits(out: &mut [u8], at: usize, end: usize, n: u32)
     }
 }
 
-// The text of n from place `at` on, and where it ends; nothing, and `at`, where there is no room for it.
+// The text of n from place `at` on, and where it ends; nothing, and `at`, if there is no room for it: so a caller writes on from there either way.
 #[tactic(auto, unfolding(crate::specs::Decimal::number_end, wire::specs::Bytes::fitted))]
 pub fn put_number(out: &mut [u8], at: usize, n: u32) -> usize
     ensures { (result ≡ number_end out.old at n) × (out.new ≡ fitted out.old at (decimal n)) }

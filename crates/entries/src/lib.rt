@@ -12,6 +12,7 @@ use answers::{Refusal, Reply};
 use steps::{Deed, Effect, Seen, Write};
 use tasks::{Call, CellNo, Task, TaskNo};
 
+// `kind` is no enum: an entry is read whatever its kind is, and 12 comes before 13.
 #[derive(Clone, Copy)]
 pub struct Entry {
     pub task: TaskNo,

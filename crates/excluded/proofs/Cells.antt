@@ -1,4 +1,4 @@
--- Wrong answers of what a step sees, of the tables' range test and of one entry on a record that their contracts rule out. Assumes nothing.
+-- Wrong answers of what a step sees, of the range tests, of an effect that is written back and of one entry on a record that their contracts rule out. Assumes nothing.
 use Rattle.std.specs.Prelude.{Ok, Err}
 use Prim.Native.Nat.{ℕ}
 use native.Mathlib.Omega.{arith}
@@ -9,29 +9,37 @@ use mathlib.Core.Logic.{◌≢◌}
 use lib.ListN.{set, get_or}
 use lib.Seq.{get_or-set_other}
 use contract.Lifetimes.{Lfts}
+use Rattle.answers.specs.Types.{Answer}
 use Rattle.answers.specs.declared.Refusal.{Refusal}
 use Rattle.answers.specs.declared.Reply.{Reply}
+use Rattle.tasks.specs.declared.TaskNo.{TaskNo}
 use Rattle.tasks.specs.declared.Task.{Task}
 use Rattle.tasks.specs.Records.{no_task}
+use Rattle.steps.specs.Types.{Effect}
+use Rattle.steps.specs.declared.Deed.{Deed}
 use Rattle.steps.specs.declared.Seen.{Seen}
 use Rattle.cells.specs.declared.Machine.{Machine}
 use Rattle.cells.specs.declared.Applied.{Applied}
+use Rattle.cells.specs.Machine.{placed}
 use Rattle.cells.specs.Apply.{apply_of}
 use Rattle.cells.proofs.Machine.seen.Reads as seen
 use Rattle.cells.proofs.Machine.tables_ok.Reads as tables-ok
+use Rattle.cells.proofs.Machine.in_range.Reads as sound
+use Rattle.cells.proofs.Machine.task.Reads as task
+use Rattle.cells.proofs.Machine.carry.Reads as carry
 use Rattle.cells.proofs.Machine.apply.Reads as apply
 use Rattle.runs.specs.Counts.{accepted}
 use Rattle.laws.specs.Small.{fresh}
 use Rattle.laws.specs.Bytes.{go, load}
 use Rattle.laws.proofs.Entries.{by_entry, refused_leaves}
 use Rattle.faults.specs.Benches.{computing}
-use Rattle.excluded.specs.Lent.{lent, never}
-use Rattle.excluded.specs.Records.{with_cell, with_count, pointer_at_k, count_past_most, free_past_k, pool_too_small, at, cells, benched, task_at, seeking, in_store}
+use Rattle.excluded.specs.Lent.{lent, lent_mut, never}
+use Rattle.excluded.specs.Records.{with_cell, with_count, with_task, with_tables, pointer_at_k, count_past_most, free_past_k, pool_too_small, phase_ten, cursor_at_k, phase_ten_past_p, at, cells, task_at, seeking, in_store}
 
-module _ (κs : Lfts 1) (z : Seen) where
-  -- the task of the bench, in phase 3, with these pointers
+module _ (κs : Lfts 1) (z : Seen) (ts : List Task) where
+  -- the task of the tables, in phase 3, with these pointers, whatever records the machine has
   abbrev Sees : List ℕ → Type 0
-  Sees cs = seen.Post κs (lent (benched cs (at 3)), (at 3, tt)) z (lent (benched cs (at 3)), (at 3, tt))
+  Sees cs = seen.Post κs (lent (with_tables cs ts), (at 3, tt)) z (lent (with_tables cs ts), (at 3, tt))
 
   -- m in place of the cell's node, so that every check passes
   pub sees_m_for_here : Sees (set cells 0 2) → z.here.0 ≡ 3 → ⊥
@@ -88,6 +96,58 @@ module _ (κs : Lfts 1) where
   pub past_n_stopped : Finds (with_cell fresh 1 5) false → ⊥
   unfolding computing
   past_n_stopped q = never cc
+
+module _ (κs : Lfts 1) where
+  -- a lent machine is found to be in range, or not
+  abbrev Tests : Machine → Bool → Type 0
+  Tests m b = sound.Post κs (lent m, tt) b (lent m, tt)
+
+  -- a test that leaves the task records out
+  pub phase_ten_passes : Tests phase_ten true → ⊥
+  unfolding computing
+  phase_ten_passes q = never cc
+
+  -- a test of the first task's record alone
+  pub cursor_at_k_passes : Tests cursor_at_k true → ⊥
+  unfolding computing
+  cursor_at_k_passes q = never cc
+
+  -- a test that looks at what stands past P
+  pub past_p_stopped : Tests phase_ten_past_p false → ⊥
+  unfolding computing
+  past_p_stopped q = never cc
+
+module _ (κs : Lfts 1) (z : Task) where
+  -- the record of task p, asked of a lent machine
+  abbrev Gives : Machine → ℕ → Type 0
+  Gives m p = task.Post κs (lent m, (record { 0 = p }, tt)) z (lent m, (record { 0 = p }, tt))
+
+  -- task 0's record for task 1
+  pub first_for_second : Gives fresh 1 → z.own.0 ≡ 1 → ⊥
+  unfolding computing
+  first_for_second q h = omega (arith, ap (λ t. t.own.0) q, h)
+
+  -- no task's record for a number past the 16th: it stands for the last
+  pub last_not_found : Gives (with_task fresh 15 (at 12)) 200 → z.phase ≡ 0 → ⊥
+  unfolding computing
+  last_not_found q h = omega (arith, ap (λ t. t.phase) q, h)
+
+-- an effect on task p of the lent machine m leaves m', and is answered z
+module _ (κs : Lfts 1) (m m' : Machine) (p : TaskNo) (z : Answer) where
+  abbrev Carries : Effect → Type 0
+  Carries e = carry.Post κs (lent_mut m, (p, (e, tt))) z (lent_mut m', (p, (e, tt)))
+
+  -- a refusal that changes the machine
+  pub refusal_carried_out : (r : Refusal) → Carries (Err r) → m' ≢ m → ⊥
+  refusal_carried_out r q h = h q.0
+
+  -- a refusal that is answered as a deed
+  pub refusal_answered_done : (r : Refusal) (a : Reply) → Carries (Err r) → z ≡ Ok a → ⊥
+  refusal_answered_done r a q h = let e = sym q.1 ∙ h in never cc
+
+  -- a deed that writes the record of another task than its own
+  pub deed_writes_other_task : (d : Deed) (j : ℕ) → j ≢ (placed p).0 → Carries (Ok d) → task_at m' j ≢ task_at m j → ⊥
+  deed_writes_other_task d j n q h = h (ap (λ x. task_at x j) q.0 ∙ get_or-set_other m.tasks (placed p).0 j d.task no_task n)
 
 module _ (m : Machine) (s : List ℕ) where
   keeps_sizes : (apply_of m s).machine.n ∷ (apply_of m s).machine.p ∷ (apply_of m s).machine.k ∷ [] ≡ m.n ∷ m.p ∷ m.k ∷ []

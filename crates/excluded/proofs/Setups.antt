@@ -1,4 +1,4 @@
--- Wrong answers of a setup, of its head alone, over lent tables and as a record, that the contracts rule out. Assumes nothing.
+-- Wrong answers of a setup, of its head alone, in a lent machine and as a record, that the contracts rule out. Assumes nothing.
 use Rattle.std.specs.Prelude.{Result, Ok, Err}
 use Prim.Native.Nat.{ℕ, ◌+◌, ◌*◌, ◌≤◌, ◌<◌}
 use native.Mathlib.Omega.{arith}
@@ -7,10 +7,11 @@ use mathlib.Core.Bool.{true}
 use mathlib.Core.List.{List, [], ◌∷◌}
 use mathlib.Core.Logic.{◌≢◌}
 use lib.Dec.{eqb}
-use lib.ListN.{length, get_or}
+use lib.ListN.{length, get_or, replicate}
 use borrow.Author.Tests.{ltb-true, ltb-false, le-ltb, le-leb, eqb-true, not-false}
 use contract.Lifetimes.{Lfts}
-use Rattle.tallies.proofs.Lists.{both, within_true}
+use Rattle.tallies.proofs.Lists.{both, within_true, past_filled}
+use Rattle.tallies.specs.Lists.{fill_to}
 use Rattle.wire.specs.Bytes.{setup_mark, marked, word_at}
 use Rattle.answers.specs.declared.Refusal.{Refusal}
 use Rattle.answers.specs.declared.Refusal.TheVariants.{Sizes, NotZero, WrongMark, TooShort}
@@ -25,12 +26,14 @@ use Rattle.cells.proofs.Setups.{Fits, accepted, by_tests, setup-fresh, head_fits
 use Rattle.cells.proofs.Fresh.{fresh-cell, fresh_cell_past, fresh-value, fresh_value_past, fresh_count, fresh_count_past, fresh-task}
 use Rattle.cells.proofs.start.read_head.Reads as read_head
 use Rattle.cells.proofs.start.fill.Reads as fill
+use Rattle.cells.proofs.start.blank.Reads as blank-machine
 use Rattle.cells.proofs.Machine.setup.Reads as machine-setup
 use Rattle.laws.specs.Bytes.{words, setup}
 use Rattle.laws.specs.Small.{small}
 use Rattle.laws.proofs.Start.{Sizes as InBounds, setup_blank}
 use Rattle.faults.specs.Benches.{computing}
 use Rattle.excluded.specs.Lent.{lent, lent_mut, never}
+use Rattle.excluded.specs.Records.{task_at}
 
 -- WHAT A SETUP'S ANSWER TELLS OF ITS BYTES
 
@@ -206,80 +209,113 @@ module _ (s : List ℕ) where
   unfolding fresh_of
   all_nodes = omega (arith, ap (λ m. m.free) (setup-fresh s), fits.2)
 
--- THE LENT RECORD
+-- A LENT MACHINE
 
--- a is the answer; the lent machine is was at entry, whatever it holds, and z at exit
-module _ (κs : Lfts 2) (a : Result ℕ Refusal) (was z : Machine) where
+-- a table of one value has it at each place, and past its end by default
+every_place : {A : Type 0} (n : ℕ) (a : A) (i : ℕ) → get_or (replicate n a) i a ≡ a
+unfolding fill_to
+every_place n a i = past_filled (λ (j : ℕ). a) 0 n a i (omega arith)
+
+-- m is lent, whatever it holds, and m' is left; z is the answer
+module _ (κs : Lfts 2) (m m' : Machine) (z : Result ℕ Refusal) where
   -- the setup of the bytes s
   abbrev Lays : List ℕ → Type 0
-  Lays s = fill.Post κs (lent_mut was, (lent s, tt)) a (lent_mut z, (lent s, tt))
+  Lays s = fill.Post κs (lent_mut m, (lent s, tt)) z (lent_mut m', (lent s, tt))
 
-  blank : (s : List ℕ) (r : Refusal) → Lays s → a ≡ Err r → (setup_of s).machine ≡ blank_of
-  blank s r q h = setup_blank s r (sym q.1 ∙ h)
+  blank : (s : List ℕ) (r : Refusal) → Lays s → z ≡ Err r → m' ≡ blank_of
+  blank s r q a = q.0 ∙ setup_blank s r (sym q.1 ∙ a)
 
   -- a refused setup after which a cell holds what it held
-  pub refused_setup_keeps_cell : (s : List ℕ) (r : Refusal) (i : ℕ) → Lays s → a ≡ Err r → get_or z.cells i 0 ≢ 0 → ⊥
-  refused_setup_keeps_cell s r i q e h = h (ap (λ m. get_or m.cells i 0) q.0 ∙ cell-past s i (omega (arith, ap (λ m. m.n) (blank s r q e))))
+  pub refused_setup_keeps_cell : (s : List ℕ) (r : Refusal) (i : ℕ) → Lays s → z ≡ Err r → get_or m'.cells i 0 ≢ 0 → ⊥
+  refused_setup_keeps_cell s r i q a h = h (ap (λ x. get_or x.cells i 0) q.0 ∙ cell-past s i (omega (arith, ap (λ x. x.n) (sym q.0 ∙ blank s r q a))))
 
   -- a refused setup after which a node has the value that it had
-  pub refused_setup_keeps_value : (s : List ℕ) (r : Refusal) (i : ℕ) → Lays s → a ≡ Err r → get_or z.values i 0 ≢ 0 → ⊥
-  refused_setup_keeps_value s r i q e h = h (ap (λ m. get_or m.values i 0) q.0 ∙ value-past s i (omega (arith, ap (λ m. m.n) (blank s r q e))))
+  pub refused_setup_keeps_value : (s : List ℕ) (r : Refusal) (i : ℕ) → Lays s → z ≡ Err r → get_or m'.values i 0 ≢ 0 → ⊥
+  refused_setup_keeps_value s r i q a h = h (ap (λ x. get_or x.values i 0) q.0 ∙ value-past s i (omega (arith, ap (λ x. x.n) (sym q.0 ∙ blank s r q a))))
 
   -- a refused setup after which a node has the count that it had
-  pub refused_setup_keeps_count : (s : List ℕ) (r : Refusal) (i : ℕ) → Lays s → a ≡ Err r → get_or z.counts i 0 ≢ 0 → ⊥
-  refused_setup_keeps_count s r i q e h = h (ap (λ m. get_or m.counts i 0) q.0 ∙ count_past s i (omega (arith, ap (λ m. m.n) (blank s r q e), ap (λ m. m.p) (blank s r q e))))
+  pub refused_setup_keeps_count : (s : List ℕ) (r : Refusal) (i : ℕ) → Lays s → z ≡ Err r → get_or m'.counts i 0 ≢ 0 → ⊥
+  refused_setup_keeps_count s r i q a h =
+      let e = sym q.0 ∙ blank s r q a in
+      h (ap (λ x. get_or x.counts i 0) q.0 ∙ count_past s i (omega (arith, ap (λ x. x.n) e, ap (λ x. x.p) e)))
+
+  -- a refused setup after which a task has the record that it had
+  pub refused_setup_keeps_task : (s : List ℕ) (r : Refusal) (i : ℕ) → Lays s → z ≡ Err r → task_at m' i ≢ no_task → ⊥
+  refused_setup_keeps_task s r i q a h = h (ap (λ x. task_at x i) (blank s r q a) ∙ every_place 16 no_task i)
 
   -- an accepted setup with other sizes than its bytes have
-  pub laid_with_other_sizes : (s : List ℕ) (u : ℕ) → Lays s → a ≡ Ok u → z.n ∷ z.p ∷ z.k ∷ [] ≢ get_or s 2 0 ∷ get_or s 3 0 ∷ get_or s 4 0 ∷ [] → ⊥
-  laid_with_other_sizes s u q e h =
-      let t = taken s u (sym q.1 ∙ e) in
+  pub laid_with_other_sizes : (s : List ℕ) (u : ℕ) → Lays s → z ≡ Ok u → m'.n ∷ m'.p ∷ m'.k ∷ [] ≢ get_or s 2 0 ∷ get_or s 3 0 ∷ get_or s 4 0 ∷ [] → ⊥
+  laid_with_other_sizes s u q a h =
+      let t = taken s u (sym q.1 ∙ a) in
       h (rw (ap (λ x. x.n) q.0 ∙ t.n, ap (λ x. x.p) q.0 ∙ t.p, ap (λ x. x.k) q.0 ∙ t.k))
 
+  -- an accepted setup that takes other bytes for its own than 6 and the 4 of each cell's value
+  pub laid_by_other_bytes : (s : List ℕ) (u : ℕ) → Lays s → z ≡ Ok u → u ≢ 6 + 4 * m'.n → ⊥
+  laid_by_other_bytes s u q a h = let t = taken s u (sym q.1 ∙ a) in h (omega (arith, t.used, t.n, ap (λ x. x.n) q.0))
+
   -- a cell below N that is at another node than its own
-  pub cell_at_other_node : (s : List ℕ) (i : ℕ) → Lays s → i < z.n → get_or z.cells i 0 ≢ i → ⊥
-  cell_at_other_node s i q l h = h (ap (λ m. get_or m.cells i 0) q.0 ∙ cell_at s i (omega (arith, l, ap (λ x. x.n) q.0)))
+  pub cell_at_other_node : (s : List ℕ) (i : ℕ) → Lays s → i < m'.n → get_or m'.cells i 0 ≢ i → ⊥
+  cell_at_other_node s i q l h = h (ap (λ x. get_or x.cells i 0) q.0 ∙ cell_at s i (omega (arith, l, ap (λ x. x.n) q.0)))
 
   -- a cell past N that holds what it held
-  pub cell_past_n_kept : (s : List ℕ) (i : ℕ) → Lays s → z.n ≤ i → get_or z.cells i 0 ≢ 0 → ⊥
-  cell_past_n_kept s i q l h = h (ap (λ m. get_or m.cells i 0) q.0 ∙ cell-past s i (omega (arith, l, ap (λ x. x.n) q.0)))
+  pub cell_past_n_kept : (s : List ℕ) (i : ℕ) → Lays s → m'.n ≤ i → get_or m'.cells i 0 ≢ 0 → ⊥
+  cell_past_n_kept s i q l h = h (ap (λ x. get_or x.cells i 0) q.0 ∙ cell-past s i (omega (arith, l, ap (λ x. x.n) q.0)))
 
   -- a cell's node with another value than the cell's own bytes have
-  pub value_of_other_bytes : (s : List ℕ) (i : ℕ) → Lays s → i < z.n → get_or z.values i 0 ≢ word_at s (6 + 4 * i) → ⊥
-  value_of_other_bytes s i q l h = h (ap (λ m. get_or m.values i 0) q.0 ∙ value-at s i (omega (arith, l, ap (λ x. x.n) q.0)))
+  pub value_of_other_bytes : (s : List ℕ) (i : ℕ) → Lays s → i < m'.n → get_or m'.values i 0 ≢ word_at s (6 + 4 * i) → ⊥
+  value_of_other_bytes s i q l h = h (ap (λ x. get_or x.values i 0) q.0 ∙ value-at s i (omega (arith, l, ap (λ x. x.n) q.0)))
 
   -- a value of 7 that is read with its bytes the other way round
-  pub value_read_backwards : Lays small → get_or z.values 0 0 ≡ 7 * 16777216 → ⊥
+  pub value_read_backwards : Lays small → get_or m'.values 0 0 ≡ 7 * 16777216 → ⊥
   unfolding computing
-  value_read_backwards q h = omega (arith, ap (λ m. get_or m.values 0 0) q.0, h)
+  value_read_backwards q h = omega (arith, ap (λ x. get_or x.values 0 0) q.0, h)
 
   -- a node past the cells' own that has the value that it had
-  pub value_past_n_kept : (s : List ℕ) (i : ℕ) → Lays s → z.n ≤ i → get_or z.values i 0 ≢ 0 → ⊥
-  value_past_n_kept s i q l h = h (ap (λ m. get_or m.values i 0) q.0 ∙ value-past s i (omega (arith, l, ap (λ x. x.n) q.0)))
+  pub value_past_n_kept : (s : List ℕ) (i : ℕ) → Lays s → m'.n ≤ i → get_or m'.values i 0 ≢ 0 → ⊥
+  value_past_n_kept s i q l h = h (ap (λ x. get_or x.values i 0) q.0 ∙ value-past s i (omega (arith, l, ap (λ x. x.n) q.0)))
 
   -- a node of a cell or a task whose count isn't 1, be it the last of them, N+P-1
-  pub owned_node_uncounted : (s : List ℕ) (i : ℕ) → Lays s → i < z.n + z.p → get_or z.counts i 0 ≢ 1 → ⊥
-  owned_node_uncounted s i q l h = h (ap (λ m. get_or m.counts i 0) q.0 ∙ count_at s i (omega (arith, l, ap (λ x. x.n) q.0, ap (λ x. x.p) q.0)))
+  pub owned_node_uncounted : (s : List ℕ) (i : ℕ) → Lays s → i < m'.n + m'.p → get_or m'.counts i 0 ≢ 1 → ⊥
+  owned_node_uncounted s i q l h = h (ap (λ x. get_or x.counts i 0) q.0 ∙ count_at s i (omega (arith, l, ap (λ x. x.n) q.0, ap (λ x. x.p) q.0)))
 
   -- a node of nobody that has a count, be it the first of them, N+P
-  pub free_node_counted : (s : List ℕ) (i : ℕ) → Lays s → z.n + z.p ≤ i → get_or z.counts i 0 ≢ 0 → ⊥
-  free_node_counted s i q l h = h (ap (λ m. get_or m.counts i 0) q.0 ∙ count_past s i (omega (arith, l, ap (λ x. x.n) q.0, ap (λ x. x.p) q.0)))
+  pub free_node_counted : (s : List ℕ) (i : ℕ) → Lays s → m'.n + m'.p ≤ i → get_or m'.counts i 0 ≢ 0 → ⊥
+  free_node_counted s i q l h = h (ap (λ x. get_or x.counts i 0) q.0 ∙ count_past s i (omega (arith, l, ap (λ x. x.n) q.0, ap (λ x. x.p) q.0)))
 
   -- a task i that owns another node than N+i, as if two tasks owned one
-  pub task_owns_other_node : (s : List ℕ) (i : ℕ) → Lays s → i < z.p → (get_or z.tasks i no_task).own.0 ≢ z.n + i → ⊥
+  pub task_owns_other_node : (s : List ℕ) (i : ℕ) → Lays s → i < m'.p → (task_at m' i).own.0 ≢ m'.n + i → ⊥
   task_owns_other_node s i q l h =
       let t = task-at s i (omega (arith, l, ap (λ x. x.p) q.0)) in
-      h (omega (arith, ap (λ x. (get_or x.tasks i no_task).own.0) q.0, ap (λ u. u.own.0) t, ap (λ x. x.n) q.0))
+      h (omega (arith, ap (λ x. (task_at x i).own.0) q.0, ap (λ u. u.own.0) t, ap (λ x. x.n) q.0))
 
   -- a task that starts linked, or in another phase than 0
-  pub task_starts_busy : (s : List ℕ) (i : ℕ) → Lays s → i < z.p → (get_or z.tasks i no_task).phase ≢ 0 → ⊥
+  pub task_starts_busy : (s : List ℕ) (i : ℕ) → Lays s → i < m'.p → (task_at m' i).phase ≢ 0 → ⊥
   task_starts_busy s i q l h =
       let t = task-at s i (omega (arith, l, ap (λ x. x.p) q.0)) in
-      h (ap (λ x. (get_or x.tasks i no_task).phase) q.0 ∙ ap (λ u. u.phase) t)
+      h (ap (λ x. (task_at x i).phase) q.0 ∙ ap (λ u. u.phase) t)
 
   -- a number of free nodes that has the tasks' own nodes in it, or is off by one
-  pub free_nodes_miscounted : (s : List ℕ) → Lays s → z.n + z.p + z.free ≢ z.k → ⊥
+  pub free_nodes_miscounted : (s : List ℕ) → Lays s → m'.n + m'.p + m'.free ≢ m'.k → ⊥
   free_nodes_miscounted s q h =
       h (omega (arith, all_nodes s, ap (λ x. x.n) q.0, ap (λ x. x.p) q.0, ap (λ x. x.k) q.0, ap (λ x. x.free) q.0))
+
+-- THE MACHINE OF ALL ZEROS
+
+module _ (z : Machine) where
+  abbrev Blanks : Type 0
+  Blanks = blank-machine.Post tt tt z tt
+
+  -- one that has free nodes
+  pub blank_has_free : Blanks → z.free ≢ 0 → ⊥
+  blank_has_free q h = h (ap (λ m. m.free) q)
+
+  -- one in which a node has a count
+  pub blank_counts_node : (i : ℕ) → Blanks → get_or z.counts i 0 ≢ 0 → ⊥
+  blank_counts_node i q h = h (ap (λ m. get_or m.counts i 0) q ∙ every_place 128 0 i)
+
+  -- one in which a task owns node i, as after a setup
+  pub blank_task_owns : (i : ℕ) → Blanks → task_at z i ≢ no_task → ⊥
+  blank_task_owns i q h = h (ap (λ m. task_at m i) q ∙ every_place 16 no_task i)
 
 -- THE RECORD
 

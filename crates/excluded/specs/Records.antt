@@ -1,10 +1,12 @@
 -- What the theorems are computed on: the small machine (1 cell at node 0, 2 tasks with nodes 1 and 2, 5 nodes, 2 of them free) with one thing in it
 -- replaced, a task's record, and tables.
 use Rattle.std.specs.Prelude.{ℕ, List, [], ◌∷◌, ◌++◌, get_or, set, replicate}
+use Rattle.tasks.specs.declared.TaskNo.{TaskNo}
 use Rattle.tasks.specs.declared.Task.{Task}
 use Rattle.tasks.specs.Records.{cell_no, node_no, no_task, with_fields, onward, probing}
 use Rattle.steps.specs.declared.Seen.{Seen}
 use Rattle.cells.specs.declared.Machine.{Machine}
+use Rattle.cells.specs.Machine.{placed}
 use Rattle.cells.specs.Free.{free_of}
 use Rattle.entries.specs.Schedule.{cut}
 use Rattle.runs.specs.Run.{replies_from, notes_from, ran_from, ran_of, replies_of, buffer_of, noted_of}
@@ -21,7 +23,7 @@ unfoldable pub running : Unit {0}
 unfolding computing free_of cut replies_from notes_from ran_from ran_of replies_of buffer_of noted_of
 running = tt
 
--- a machine of these parts
+-- the machine of these numbers and tables
 abbrev pub made_of : ℕ → ℕ → ℕ → ℕ → List ℕ → List ℕ → List ℕ → List Task → Machine
 made_of n p k free cells values counts tasks = record { n = n; p = p; k = k; free = free; cells = cells; values = values; counts = counts; tasks = tasks }
 
@@ -92,10 +94,14 @@ values = 10 ∷ 11 ∷ 12 ∷ 13 ∷ 14 ∷ replicate 123 0
 abbrev pub counts : List ℕ
 counts = 1 ∷ 1 ∷ 0 ∷ 2 ∷ 0 ∷ replicate 123 0
 
+-- a machine of 1 cell, 2 tasks and 5 nodes, 2 of them free, with those values and counts, these pointers and these task records
+abbrev pub with_tables : List ℕ → List Task → Machine
+with_tables cs ts = made_of 1 2 5 2 cs values counts ts
+
+-- the machine of those tables in which task p stands with the record t, and no other task has one
+abbrev pub standing : TaskNo → Task → Machine
+standing p t = with_tables cells (set (replicate 16 no_task) (placed p).0 t)
+
 -- what its step sees if its cell is at `here`, m has count c and the cursor's node count d, in a machine of 2 tasks and 5 nodes, 2 of them free
 abbrev pub sees : ℕ → ℕ → ℕ → Seen
 sees here c d = record { here = node_no here; held_count = c; cursor_count = d; held_value = 13; tasks = 2; nodes = 5; free = 2 }
-
--- a machine of 1 cell, 2 tasks and 5 nodes, 2 of them free, with the cell's pointers cs, whose task 0 has the record t
-abbrev pub benched : List ℕ → Task → Machine
-benched cs t = made_of 1 2 5 2 cs values counts (t ∷ replicate 15 no_task)

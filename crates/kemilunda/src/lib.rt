@@ -15,18 +15,14 @@ use runs::Report;
 pub fn kemilunda_setup(input: &[u8]) -> u32
     ensures { result ≡ setup_refusal input.now }
 {
-    let h = cells::start::read_head(input);
-    let a = h.answer;
-    cells::setup_number(a) as u32
+    u32::from(cells::setup_number(cells::start::read_head(input).answer))
 }
 
 // How many bytes the setup used, 0 for a refused one: the schedule starts there.
 pub fn kemilunda_setup_bytes(input: &[u8]) -> usize
     ensures { result ≡ setup_used input.now }
 {
-    let h = cells::start::read_head(input);
-    let a = h.answer;
-    cells::setup_bytes(a)
+    cells::setup_bytes(cells::start::read_head(input).answer)
 }
 
 fn six(r: Report) -> [u32; 6]
@@ -72,14 +68,10 @@ pub fn kemilunda_run(input: &[u8], replies: &mut [u8], numbers: &mut [u32; 6]) -
 fn told(a: Result<usize, Refusal>, written: &mut usize) -> u32
     ensures { (result ≡ text_number a) × (written.new ≡ written_by a written.old) }
 {
-    let number = texts::text_number(a) as u32;
-    match a {
-        Err(_) => number,
-        Ok(n) => {
-            *written = n;
-            number
-        }
+    if let Ok(n) = a {
+        *written = n;
     }
+    u32::from(texts::text_number(a))
 }
 
 // A schedule from text to entry bytes: 0, with how many bytes were written; or the refusal, and nothing is written.

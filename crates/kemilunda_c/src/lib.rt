@@ -1,4 +1,4 @@
-// The library for C: each export calls the function of the crate kemilunda that has its name, and promises the same. The header is include/kemilunda.h.
+// The library for C: each export calls the function of the crate kemilunda that has its name, and promises the same. The header is include/kemilunda.h. Two crates, as the toolchain makes of one either a library or an archive.
 #![tactic(auto)]
 
 ghost use Rattle.std.specs.Prelude.{◌≡◌, length};

@@ -13,7 +13,7 @@ ghost use Rattle.runs.specs.OneEntry.{load_begun, load_step, went_of, counted_by
 use answers::Refusal;
 use cells::Machine;
 
-// Entries accepted, the refusal or 0, loads begun, load steps, turned-back checks, swaps that took: all for one run.
+// Entries accepted, the refusal or 0, loads begun, load steps, turned-back checks, swaps that took: all for one run. Document 01 has the six as numbers.
 #[derive(Clone, Copy)]
 pub struct Report {
     pub accepted: u32,
@@ -35,7 +35,7 @@ fn no_report(refusal: u8) -> Report
 {
     Report {
         accepted: 0,
-        refusal: refusal,
+        refusal,
         loads: 0,
         load_steps: 0,
         turned_back: 0,
@@ -48,13 +48,7 @@ fn no_report(refusal: u8) -> Report
 fn load_step(kind: u8, from: u8) -> u32
     ensures { result ≡ load_step kind from }
 {
-    if kind != 0 {
-        return 0;
-    }
-    if from < 1 {
-        return 0;
-    }
-    if from <= 5 { 1 } else { 0 }
+    u32::from(kind == 0 && 1 <= from && from <= 5)
 }
 
 // A go entry that goes from phase f to phase g.
@@ -62,19 +56,13 @@ fn load_step(kind: u8, from: u8) -> u32
 fn went(f: u8, g: u8, kind: u8, from: u8, to: u8) -> u32
     ensures { result ≡ went_of f g kind from to }
 {
-    if kind != 0 {
-        return 0;
-    }
-    if from != f {
-        return 0;
-    }
-    if to == g { 1 } else { 0 }
+    u32::from(kind == 0 && from == f && to == g)
 }
 
 fn load_begun(kind: u8) -> u32
     ensures { result ≡ load_begun kind }
 {
-    if kind == 1 { 1 } else { 0 }
+    u32::from(kind == 1)
 }
 
 // One entry more was accepted: its kind, and its task's phase before and after it.
@@ -83,18 +71,13 @@ fn counted(r: Report, kind: u8, from: u8, to: u8) -> Report
     requires { Few 6553 r }
     ensures { result ≡ counted_by r kind from to }
 {
-    let more = r.accepted + 1;
-    let loads = r.loads + load_begun(kind);
-    let steps = r.load_steps + load_step(kind, from);
-    let turned = r.turned_back + went(3, 5, kind, from, to);
-    let swaps = r.swaps + went(8, 9, kind, from, to);
     Report {
-        accepted: more,
-        refusal: r.refusal,
-        loads: loads,
-        load_steps: steps,
-        turned_back: turned,
-        swaps: swaps,
+        accepted: r.accepted + 1,
+        loads: r.loads + load_begun(kind),
+        load_steps: r.load_steps + load_step(kind, from),
+        turned_back: r.turned_back + went(3, 5, kind, from, to),
+        swaps: r.swaps + went(8, 9, kind, from, to),
+        ..r
     }
 }
 
@@ -164,7 +147,7 @@ fn run_lent(m: &mut Machine, s: &[u8], out: &mut [u8], free_nodes: &mut [u8]) ->
     requires { Long m.old }
     ensures { (m.new ≡ (ran_of m.old s.now (length out.old)).machine) × (result ≡ (ran_of m.old s.now (length out.old)).report) × (out.new ≡ buffer_of m.old s.now out.old) × (free_nodes.new ≡ noted_of m.old s.now (length out.old) free_nodes.old) }
 {
-    if !m.sound() {
+    if !m.in_range() {
         return untried(Refusal::Damaged);
     }
     let len = s.len();

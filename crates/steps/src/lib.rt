@@ -248,7 +248,7 @@ pub fn v1_step(t: Task, s: Seen) -> Effect
     }
 }
 
-// Phases 1 to 5.
+// Phases 1 to 5. Document 01 has the phases matched by ranges, so the rows stand in two functions of their own.
 #[tactic(auto, using(crate::proofs::Rows::effect_at), unfolding(crate::specs::Table::rows))]
 fn load_step(t: Task, s: Seen) -> Effect
     requires { within 1 5 t.phase ≡ true }

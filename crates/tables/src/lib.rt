@@ -33,10 +33,10 @@ pub fn value_at(values: &[u32], v: NodeNo) -> u32
     at(values, v.0, 0)
 }
 
-pub fn task_at(tasks: [Task; 16], p: TaskNo) -> Task
-    ensures { result ≡ task_in tasks p }
+pub fn task_at(tasks: &[Task; 16], p: TaskNo) -> Task
+    ensures { result ≡ task_in tasks.now p }
 {
-    at(&tasks, p.0, tasks::idle_owning(NodeNo(0)))
+    at(tasks, p.0, tasks::idle_owning(NodeNo(0)))
 }
 
 // Entry i of a table becomes y; nothing does past its end.
@@ -75,7 +75,7 @@ pub fn slot(p: TaskNo) -> usize
     usize::from(p.0.min(15))
 }
 
-// The range test (22), table by table. The loops over numbers look at every place, so that the compiler can look at many at once.
+// The range test (22), table by table. The loops are over numbers, as a place past a table's end counts as 0; the two differ in their table's kind of number.
 
 #[tactic(auto, unfolding(crate::specs::Tables::sizes_ok))]
 pub fn sizes_ok(n: u8, p: u8, k: u8) -> bool
@@ -108,13 +108,13 @@ pub fn counts_ok(counts: &[u8], k: u8, p: u8) -> bool
 }
 
 // Of the first p records, and of 16 at most: the table has no more.
-pub fn tasks_ok(tasks: [Task; 16], n: u8, p: u8, k: u8) -> bool
-    ensures { result ≡ every (task_ok_in tasks n k) (min p 16) }
+pub fn tasks_ok(tasks: &[Task; 16], n: u8, p: u8, k: u8) -> bool
+    ensures { result ≡ every (task_ok_in tasks.now n k) (min p 16) }
 {
     tasks.iter().take(usize::from(p)).all(|t| t.in_range(n, k))
 }
 
-// The fresh machine, table by table: the first n places are filled.
+// The fresh machine, table by table: the first n places are filled. There are three, as each is one line in a `for`.
 
 // Cell i points at node i.
 #[tactic(auto, using(crate::proofs::Laws::put_more), unfolding(tallies::specs::Lists::fill_to))]

@@ -17,7 +17,7 @@ pub struct NodeNo(pub u8);
 #[derive(Clone, Copy, PartialEq, Eq)]
 pub struct TaskNo(pub u8);
 
-// Document 01's fields: x is `cell`, Y is `value`, m is `held`.
+// Document 01's fields: x is `cell`, Y is `value`, m is `held`. `phase` is no enum, as a damaged record may have any number there.
 #[derive(Clone, Copy, PartialEq, Eq)]
 pub struct Task {
     pub phase: u8,
@@ -76,7 +76,7 @@ impl Task {
         Task { cursor, ..self }
     }
 
-    // The same record, made anew of its fields: `self` as it is goes over byte by byte, the gaps between them too.
+    // The same record, made anew of its fields: `self` as it is goes over byte by byte, the gaps between them too. It stays beside `Copy` for the theorems of `excluded`.
     pub fn copied(self) -> Task
         ensures { result ≡ self }
     {
@@ -104,7 +104,7 @@ impl Task {
     }
 }
 
-// The core of `begin`, by value.
+// The core of `begin`, by value: document 01 has both.
 pub fn begun(t: Task, c: Call) -> Task
     ensures { result ≡ begun_of t c }
 {
@@ -171,12 +171,13 @@ pub fn holders(ts: &[Task], node: NodeNo) -> Option<usize>
 
 // The holders question of the first p records of a table; a table of more than 16 is refused as such a list is.
 #[tactic(auto, unfolding(crate::specs::Holders::held_among))]
-pub fn held_among(ts: [Task; 16], p: u8, node: NodeNo) -> Option<usize>
-    ensures { result ≡ held_among ts p node }
+pub fn held_among(ts: &[Task; 16], p: u8, node: NodeNo) -> Option<usize>
+    ensures { result ≡ held_among ts.now p node }
 {
-    holders(ts.get(..p as usize)?, node)
+    holders(ts.get(..usize::from(p))?, node)
 }
 
+// 24 is no number of a `Refusal`, which is of setups, entries and runs.
 pub fn holders_number(h: Option<usize>) -> u8
     ensures { result ≡ holders_number h }
 {

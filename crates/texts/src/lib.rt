@@ -110,6 +110,7 @@ fn write_entries(text: &[u8], entries: &mut [u8])
 {
     let mut at = 0;
     let mut to = 0;
+    // the same
     while at < text.len() {
         let Ok((e, next)) = line_at(text, at) else {
             return; // no line is bad

@@ -10,16 +10,16 @@ use Rattle.cells.specs.Machine.{in_range}
 use Rattle.runs.specs.Run.{replies_from, ran_of, replies_of, buffer_of, noted_of}
 use Rattle.runs.proofs.run_lent.Goals as goal
 
-pub returns-then-not-sound : goal.returns-then-not-sound
+pub returns-then-not-in_range : goal.returns-then-not-in_range
 unfolding ran_of replies_of buffer_of noted_of
-returns-then-not-sound c =
-    let damaged : in_range c.args.m.now ≡ false = sym (c.if-not-sound.ensures {u = tt}) in
+returns-then-not-in_range c =
+    let damaged : in_range c.args.m.now ≡ false = sym (c.if-not-in_range.ensures {u = tt}) in
     (rw damaged refl, rw (c.untried.ensures, damaged) refl, rw damaged refl, rw damaged refl)
 
 pub returns-then-len-gt65530 : goal.returns-then-len-gt65530
 unfolding ran_of replies_of buffer_of noted_of
 returns-then-len-gt65530 c =
-    let sound : in_range c.args.m.now ≡ true = sym (c.if-not-sound.ensures {u = tt}) in
+    let sound : in_range c.args.m.now ≡ true = sym (c.if-not-in_range.ensures {u = tt}) in
     let long = lt-leb _ 65530 c.if-len-gt65530.true in
     let more = lt-ltb 65530 _ c.if-len-gt65530.true in
     (rw (sound, more) refl, rw (c.untried-then-len-gt65530.ensures, sound, more) refl, rw (sound, long) refl, rw (sound, long) refl)
@@ -28,7 +28,7 @@ pub returns-then-out-len : goal.returns-then-out-len
 unfolding ran_of replies_of buffer_of noted_of
 returns-then-out-len c =
     let a = c.args in
-    let sound : in_range a.m.now ≡ true = sym (c.if-not-sound.ensures {u = tt}) in
+    let sound : in_range a.m.now ≡ true = sym (c.if-not-in_range.ensures {u = tt}) in
     let short : length a.out.now < 8 * entries_in a.s.now = c.if-out-len.true in
     let fits = le-leb _ 65530 c.if-len-gt65530.false in
     let less = le-ltb 65530 _ c.if-len-gt65530.false in
@@ -36,13 +36,13 @@ returns-then-out-len c =
     (rw (sound, less, lt-ltb _ _ short) refl, rw (c.untried-then-out-len.ensures, sound, less, lt-ltb _ _ short) refl, rw (sound, fits, more) refl, rw (sound, fits, more) refl)
 
 pub run_entries-requires : goal.run_entries-requires
-run_entries-requires c = (c.if-len-gt65530.false, c.if-out-len.false, c.requires, sym (c.if-not-sound.ensures {u = tt}))
+run_entries-requires c = (c.if-len-gt65530.false, c.if-out-len.false, c.requires, sym (c.if-not-in_range.ensures {u = tt}))
 
 pub returns : goal.returns
 unfolding ran_of replies_of buffer_of noted_of
 returns c =
     let a = c.args in
-    let sound : in_range a.m.now ≡ true = sym (c.if-not-sound.ensures {u = tt}) in
+    let sound : in_range a.m.now ≡ true = sym (c.if-not-in_range.ensures {u = tt}) in
     let fits = le-leb _ 65530 c.if-len-gt65530.false in
     let less = le-ltb 65530 _ c.if-len-gt65530.false in
     let room = le-leb _ _ c.if-out-len.false in

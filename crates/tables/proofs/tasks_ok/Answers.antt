@@ -9,5 +9,5 @@ use Rattle.tables.proofs.tasks_ok.Goals as goal
 pub returns : goal.returns
 returns c =
     let a = c.args in
-    all_from_yields_List (task_ok a.n a.k) _ _ _ c.all.ensures.ran (YieldsList-from_take a.p (YieldsList-from_slice a.tasks (cc)) (cc)) (λ x b q k. search (rules, tests))
-    ∙ tested_records a.tasks a.n a.k a.p (search rules)
+    all_from_yields_List (task_ok a.n a.k) _ _ _ c.all.ensures.ran (YieldsList-from_take a.p (YieldsList-from_slice a.tasks.now (cc)) (cc)) (λ x b q k. search (rules, tests))
+    ∙ tested_records a.tasks.now a.n a.k a.p (search rules)

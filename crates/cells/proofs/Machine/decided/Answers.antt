@@ -10,7 +10,7 @@ pub returns-in-Ok : goal.returns-in-Ok
 unfolding judged_of decision_of
 returns-in-Ok c =
     let m = c.args.self.now in
-    let sound = sym (c.if-not-sound.ensures {u = tt}) in
+    let sound = sym (c.if-not-in_range.ensures {u = tt}) in
     let e = c.in-Ok.e in
     rw (sound, sym c.read_entry.ensures ∙ c.in-Ok.is)
     (ap (λ (x : Effect). record { task = e.task.0; effect = x })

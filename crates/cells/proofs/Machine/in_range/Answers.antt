@@ -1,7 +1,7 @@
--- `Machine::sound`: the tables, then the task records.
+-- `Machine::in_range`: the tables, then the task records.
 use Rattle.std.proofs.Common.{sym}
 use Rattle.cells.proofs.Decide.{range_tests}
-use Rattle.cells.proofs.Machine.sound.Goals as goal
+use Rattle.cells.proofs.Machine.in_range.Goals as goal
 
 pub returns-then-tables_ok : goal.returns-then-tables_ok
 returns-then-tables_ok c = rw (range_tests, sym (c.if-tables_ok.ensures {u = tt})) c.tasks_ok.ensures
