@@ -63,7 +63,8 @@ pub fn turn(m: &mut Machine, e: Entry) -> Answer
 {
     let p = e.task;
     let t = m.task(p);
-    match entries::asks(m.n, m.p, e)? {
+    // `Entry { ..e }`, made anew of its fields: `e` as it is goes over packed into one number, and an entry takes a sixteenth longer
+    match entries::asks(m.n, m.p, Entry { ..e })? {
         Asked::ToGo => go(m, p),
         Asked::ToLoad(x) => carry(m, p, entries::load(t, x)),
         Asked::ToStore(x, y) => carry(m, p, entries::store(t, x, y)),
