@@ -122,7 +122,7 @@ impl Machine {
     pub fn task(&self, p: TaskNo) -> Task
         ensures { result ≡ task_in self.now.tasks (placed p) }
     {
-        self.tasks[tables::slot(p)]
+        self.tasks[tables::slot(p)].copied()
     }
 
     // What a step of the task record t may look at.
@@ -166,7 +166,7 @@ impl Machine {
         write_values(&mut self.values, w);
         write_counts(&mut self.counts, w);
         self.free = write_free(self.free, w);
-        self.tasks[tables::slot(p)] = d.task;
+        self.tasks[tables::slot(p)] = d.task.copied();
         Ok(d.reply)
     }
 
