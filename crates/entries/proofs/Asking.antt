@@ -7,10 +7,10 @@ use mathlib.Core.Logic.{◌≢◌}
 use lib.Dec.{eqb, leb, ltb}
 use borrow.Author.Tests.{le-leb, lt-leb, lt-ltb, le-ltb, eq-eqb, ne_eqb}
 use Rattle.steps.specs.Table.{effect_of}
-use Rattle.entries.specs.Types.{TaskNo, CellNo, Task, Release, Validate, NoTask, NoKind, NoCell, NotZero, Seen, Entry, Asked, ToGo, ToLoad, ToStore, ToRelease, ToValidate}
+use Rattle.entries.specs.Types.{Task, Release, Validate, NoTask, NoKind, NoCell, NotZero, Seen, Entry, Asked, ToGo, ToLoad, ToStore, ToRelease, ToValidate}
 use Rattle.entries.specs.Entry.{nonzero, outside}
 use Rattle.entries.specs.Order.{load_of, store_of, linked_call_of, call_of, order_of}
-use Rattle.entries.specs.Asking.{entry_by, plain_of, asked_of, obeyed}
+use Rattle.entries.specs.Asking.{plain_of, asked_of, obeyed}
 use Rattle.answers.specs.declared.Refusal.{Refusal}
 
 pub order_asked : (n p : ℕ) (e : Entry) (t : Task) (s : Seen) → order_of n p e t s ≡ obeyed (asked_of n p e) t s

@@ -1,10 +1,9 @@
 -- The step table of document 01 as document 02 changes it (validate; lowering tells what it left; free nodes are kept count of), row by row in
 -- their order. Each row gives, for a task's record and the numbers in its sight, a deed: the next record, the one place written, the reply.
-use Rattle.std.specs.Prelude.{ℕ, ◌+◌, ◌-◌, ◌%◌, cond, List, [], ◌∷◌, eqb, ltb, get_or, Result, Ok, Err}
+use Rattle.std.specs.Prelude.{ℕ, ◌+◌, ◌-◌, ◌%◌, cond, List, [], ◌∷◌, eqb, ltb, get_or, Ok, Err}
 use Rattle.tallies.specs.Tally.{bit}
 use Rattle.tasks.specs.Records.{node_no, onward, holding, owning, probing}
 use Rattle.steps.specs.Types.{Counted, NodeNo, Task, Reply, Moved, Loaded, Took, Lost, Released, Good, Gone, NoStep, Damaged, Answer, Seen, Write, Nothing, Point, Count, Value, Effect}
-use Rattle.answers.specs.declared.Refusal.{Refusal}
 
 -- (v + 1) mod k. K is never 0 in a record that is in range; the definition gives 0 there.
 unfoldable pub after : ℕ → NodeNo → NodeNo
