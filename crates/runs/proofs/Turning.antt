@@ -8,7 +8,6 @@ use native.Mathlib.Omega.{arith}
 use mathlib.Core.Logic.{inl, inr}
 use lib.ListN.{length, get_or, take, drop, set, length-drop, drop_of_length-le}
 use lib.Seq.{drop-drop}
-use Rattle.std.specs.Result.{is_ok}
 use Rattle.std.proofs.Math.Seq.{take-append_seam, drop-append_seam}
 use Rattle.std.proofs.lemmas.Bool.{cases_lt}
 use Rattle.std.proofs.lemmas.List.{take_min, length-append, nil_from_length}
@@ -45,14 +44,6 @@ abbrev pub Over : List ℕ → List ℕ → List ℕ → Machine → List ℕ �
 Over s o₀ f₀ m₀ o f m r =
     (m ≡ (ran_from m₀ (report_of 0) (entries_of s)).machine) × (r ≡ (ran_from m₀ (report_of 0) (entries_of s)).report)
     × (o ≡ overlaid o₀ 0 (replies_from m₀ (entries_of s))) × (f ≡ noted_by (notes_from m₀ (entries_of s)) f₀)
-
-pub no-error : (a : Answer) → is_ok a ≡ true → accepted a ≡ true
-no-error (Ok r) h = refl
-no-error (Err r) h = absurd (false≢true h)
-
-pub an-error : (a : Answer) → is_ok a ≡ false → accepted a ≡ false
-an-error (Ok r) h = absurd (false≢true (sym h))
-an-error (Err r) h = refl
 
 -- the ten bytes, or fewer, that are cut off the front of what is left, and what is left then
 module _ (s : List ℕ) (i size : ℕ) (l x w : List ℕ) (ten : size ≡ 10) (left : l ≡ drop (10 * i) s) (parts : l ≡ x ++ w) (long : length x ≡ min size (length l)) where

@@ -123,14 +123,19 @@ fn run_entries(m: &mut Machine, s: &[u8], out: &mut [u8], free_nodes: &mut [u8])
             }
         };
         let from = m.task(e.task).phase;
-        let a = turns::turn(m, e);
-        let number = answers::number(a);
-        reply(out, i, number, e.task.0, answers::value(a));
-        note(free_nodes, i, m); // of the machine that this entry leaves
-        if a.is_err() {
-            return stopped(report, number);
+        match turns::turn(m, e) {
+            Err(r) => {
+                let number = u8::from(r);
+                reply(out, i, number, e.task.0, 0);
+                note(free_nodes, i, m);
+                return stopped(report, number);
+            }
+            Ok(r) => {
+                reply(out, i, u8::from(r), e.task.0, answers::reply_value(r));
+                note(free_nodes, i, m); // of the machine that this entry leaves
+                report = counted(report, e.kind, from, m.task(e.task).phase);
+            }
         }
-        report = counted(report, e.kind, from, m.task(e.task).phase);
     }
     report
 }

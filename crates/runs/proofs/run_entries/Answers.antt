@@ -1,8 +1,8 @@
 -- `run_entries`: what is left of the run gives the whole.
-use Rattle.std.proofs.Common.{◌≡◌, ◌+◌, rules, refl, ap, sym, ◌∙◌, arith}
+use Rattle.std.proofs.Common.{◌≡◌, Ok, Err, ◌+◌, rules, refl, ap, sym, ◌∙◌, arith}
 use Rattle.runs.proofs.Going.{starts, ends, fits}
 use Rattle.runs.proofs.Laws.{few_le}
-use Rattle.runs.proofs.Turning.{next-bytes, bytes-left, more-bytes, no-bytes, no-error, an-error, unread, turned-back, taken}
+use Rattle.runs.proofs.Turning.{next-bytes, bytes-left, more-bytes, no-bytes, unread, turned-back, taken}
 use Rattle.runs.proofs.run_entries.Goals as goal
 
 pub loop-i-init : goal.loop-i-init
@@ -13,13 +13,6 @@ loop-i-init c =
 
 pub reply-requires : goal.reply-requires
 reply-requires c =
-    let l = c.loop-i in
-    let steps = c.in-Some.ensures.steps in
-    let more = more-bytes c.args.s.now l.i-iterator.count _ _ c.in-Some.bytes.now _ l.invariant.2 l.invariant.3 steps.0.1.0 steps.0.1.1 steps.0.1.2 in
-    omega (arith, steps.1, fits _ _ _ _ _ _ _ _ _ l.invariant.4.going more c.requires.1)
-
-pub reply-requires-in-loop-i : goal.reply-requires-in-loop-i
-reply-requires-in-loop-i c =
     let l = c.loop-i in
     let steps = c.in-Some.ensures.steps in
     let more = more-bytes c.args.s.now l.i-iterator.count _ _ c.in-Some.bytes.now _ l.invariant.2 l.invariant.3 steps.0.1.0 steps.0.1.1 steps.0.1.2 in
@@ -43,24 +36,23 @@ returns-in-Err c =
     unread l.invariant.4 more c.requires.1 _ bytes c.in-Err.r (sym c.read_entry.ensures ∙ c.in-Err.is)
     _ (c.reply.ensures ∙ rw (at, n) refl) _ (c.note.ensures ∙ rw at refl) _ (c.stopped.ensures ∙ rw n refl)
 
-pub returns-then-is_err : goal.returns-then-is_err
-returns-then-is_err c =
+pub returns-in-Err-turn : goal.returns-in-Err-turn
+returns-in-Err-turn c =
     let l = c.loop-i in
     let steps = c.in-Some.ensures.steps.0 in
-    let n = c.number-number.ensures in
-    let v = c.value.ensures in
+    let n = c.from-number-in-Err-turn.ensures in
     let at : c.in-Some.i ≡ l.i-iterator.count = c.in-Some.ensures.steps.1 in
     let more = more-bytes c.args.s.now l.i-iterator.count _ _ c.in-Some.bytes.now _ l.invariant.2 l.invariant.3 steps.1.0 steps.1.1 steps.1.2 in
     let bytes = next-bytes c.args.s.now l.i-iterator.count _ _ _ _ l.invariant.2 l.invariant.3 steps.1.0 steps.1.1 in
-    turned-back l.invariant.4 more c.requires.1 _ bytes c.in-Ok.e (sym c.read_entry.ensures ∙ c.in-Ok.is) c.turn-a.new.m c.turn-a.result c.turn-a.ensures
-    _ (c.reply-in-loop-i.ensures ∙ rw (at, n, v) refl) _ (c.note-in-loop-i.ensures ∙ rw at refl) _ (an-error _ c.if-is_err.ensures.negation) (c.stopped-then-is_err.ensures ∙ rw n refl)
+    turned-back l.invariant.4 more c.requires.1 _ bytes c.in-Ok.e (sym c.read_entry.ensures ∙ c.in-Ok.is) c.turn.new.m (Err c.in-Err-turn.r) c.in-Err-turn.ensures
+    _ (c.reply-in-Err-turn.ensures ∙ rw (at, n) refl) _ (c.note-in-Err-turn.ensures ∙ rw at refl) _ refl (c.stopped-in-Err-turn.ensures ∙ rw n refl)
 
 pub loop-i-preserved : goal.loop-i-preserved
 loop-i-preserved c =
     let l = c.loop-i in
     let steps = c.in-Some.ensures.steps.0 in
-    let n = c.number-number.ensures in
-    let v = c.value.ensures in
+    let n = c.from.ensures in
+    let v = c.reply_value.ensures in
     let at : c.in-Some.i ≡ l.i-iterator.count = c.in-Some.ensures.steps.1 in
     let next : c.next.new.self.count ≡ l.i-iterator.count + 1 = c.in-Some.ensures.steps.2 in
     let more = more-bytes c.args.s.now l.i-iterator.count _ _ c.in-Some.bytes.now _ l.invariant.2 l.invariant.3 steps.1.0 steps.1.1 steps.1.2 in
@@ -70,8 +62,8 @@ loop-i-preserved c =
       steps.0 ∙ l.invariant.2,
       bytes-left c.args.s.now l.i-iterator.count _ _ _ _ l.invariant.2 l.invariant.3 steps.1.0 steps.1.1 ∙ rw next refl,
       rw next
-          (taken l.invariant.4 more c.requires.1 _ bytes c.in-Ok.e (sym c.read_entry.ensures ∙ c.in-Ok.is) c.turn-a.new.m c.turn-a.result c.turn-a.ensures
-          _ (c.reply-in-loop-i.ensures ∙ rw (at, n, v) refl) _ (c.note-in-loop-i.ensures ∙ rw at refl) _ (no-error _ c.if-is_err.ensures.negation)
+          (taken l.invariant.4 more c.requires.1 _ bytes c.in-Ok.e (sym c.read_entry.ensures ∙ c.in-Ok.is) c.turn.new.m (Ok c.in-Ok-turn.r) c.in-Ok-turn.ensures
+          _ (c.reply-in-Ok-turn.ensures ∙ rw (at, n, v) refl) _ (c.note-in-Ok-turn.ensures ∙ rw at refl) _ refl
           (c.counted-report.ensures ∙ rw (c.task-from.ensures, c.task.ensures) refl)),
     )
 
