@@ -12,7 +12,7 @@ pub(crate) fn pool_ok(n: u8, p: u8, k: u8, free: u8) -> bool
     tables::sizes_ok(n, p, k) && free <= k
 }
 
-// The free-nodes question, handed four numbers of a record and none of its tables: it may be asked after every entry.
+// The free-nodes question, handed four numbers of a record and none of its tables: it may be asked after every entry, and of numbers that no record has.
 #[tactic(auto, unfolding(crate::specs::Free::free_of))]
 pub fn free_nodes(n: u8, p: u8, k: u8, free: u8) -> Result<u8, Refusal>
     ensures { result ≡ free_of n p k free }
@@ -23,6 +23,7 @@ pub fn free_nodes(n: u8, p: u8, k: u8, free: u8) -> Result<u8, Refusal>
     Ok(free)
 }
 
+// Beside `refusal_or_0`: `free_number_one` and PROMISES name it, and `free_value` likewise.
 pub fn free_number(f: Result<u8, Refusal>) -> u8
     ensures { result ≡ free_number f }
 {

@@ -17,7 +17,7 @@ use steps::{Effect, Seen, Write};
 use tables::{count_at, node_at, put_count, put_node, put_value, value_at};
 use tasks::{NodeNo, Task, TaskNo};
 
-// N, P, K and the number of free nodes; each cell's node; each node's value and count; the task records. What stands past N, P and K makes no difference.
+// N, P, K and the number of free nodes; each cell's node; each node's value and count; the task records. What stands past N, P and K makes no difference. The tables stay arrays side by side: document 01 has them so, and `setup_of` and `apply_of` speak of them.
 #[derive(Clone, Copy, PartialEq, Eq)]
 pub struct Machine {
     pub n: u8,
@@ -30,7 +30,7 @@ pub struct Machine {
     pub tasks: [Task; 16],
 }
 
-// A machine beside the reply to an entry: the answer, with its number and value, and the task byte. Document 01 has the machine handed back on a refusal too.
+// A machine beside the reply to an entry: the answer, with its number and value, and the task byte. Document 01 has the machine handed back on a refusal too (`refused-entry`).
 #[derive(Clone, Copy)]
 pub struct Applied {
     pub machine: Machine,
@@ -38,7 +38,7 @@ pub struct Applied {
     pub task: u8,
 }
 
-// A machine beside a setup's answer: how many bytes it used, as later bytes belong to the schedule. A refused one has a machine too, all zero.
+// A machine beside a setup's answer: how many bytes it used, as later bytes belong to the schedule. A refused one has a machine too, all zero (`refused-setup`).
 #[derive(Clone, Copy)]
 pub struct SetUp {
     pub machine: Machine,
@@ -56,6 +56,7 @@ impl Machine {
     }
 }
 
+// Beside `refusal_or_0`: `setup_number_one` and PROMISES name it, and `setup_bytes` likewise.
 pub fn setup_number(a: Result<usize, Refusal>) -> u8
     ensures { result ≡ setup_number a }
 {
@@ -68,7 +69,7 @@ pub fn setup_bytes(a: Result<usize, Refusal>) -> usize
     a.unwrap_or(0)
 }
 
-// What an entry does to its task, and the task byte of its reply, which a refusal has too.
+// What an entry does to its task, and the task byte of its reply, which a refusal has too (`decision_of`).
 #[derive(Clone, Copy)]
 pub struct Decision {
     pub task: u8,
@@ -122,7 +123,7 @@ impl Machine {
     pub fn task(&self, p: TaskNo) -> Task
         ensures { result ≡ task_in self.now.tasks (placed p) }
     {
-        self.tasks[tables::slot(p)].copied()
+        self.tasks[tables::slot(p)]
     }
 
     // What a step of the task record t may look at.
@@ -166,7 +167,7 @@ impl Machine {
         write_values(&mut self.values, w);
         write_counts(&mut self.counts, w);
         self.free = write_free(self.free, w);
-        self.tasks[tables::slot(p)] = d.task.copied();
+        self.tasks[tables::slot(p)] = d.task;
         Ok(d.reply)
     }
 

@@ -12,7 +12,7 @@ pub(crate) fn freed(free: u8) -> Machine {
     Machine { free, ..sound() }
 }
 
-// A task's record from plain numbers, as only a damage can make it. These go together nowhere else, so there is no struct for them.
+// A task's record from plain numbers, as only a damage can make it. A struct for these would be longer than the calls.
 pub(crate) fn task(phase: u8, x: u8, m: u8, own: u8, cursor: u8) -> Task {
     Task {
         phase,

@@ -33,17 +33,15 @@ pub(crate) fn runs(rt: &impl Print) -> io::Result<()> {
 }
 
 // The first n bytes of a load and a go, taken as one entry.
-fn taken(phase: u8, n: usize) -> Applied
-    requires { n ≤ 20 }
-{
-    record(phase).apply(&two(Kind::Load)[..n])
+fn taken(phase: u8, s: &[u8]) -> Applied {
+    record(phase).apply(s)
 }
 
 fn tried(rt: &impl Print, phase: u8, n: usize) -> io::Result<()>
     requires { n ≤ 20 }
 {
     print!(rt; "entry of {n} bytes, task 0 phase {phase}")?;
-    shows::entry(rt, record(phase), taken(phase, n))?;
+    shows::entry(rt, record(phase), taken(phase, &two(Kind::Load)[..n]))?;
     println!(rt;)
 }
 
@@ -52,7 +50,8 @@ pub(crate) fn entries(rt: &impl Print) -> io::Result<()> {
     tried(rt, 0, 10)?;
     tried(rt, 0, 20)?;
     tried(rt, 16, 0)?;
-    let same = taken(0, 20).machine == taken(0, 10).machine;
+    let s = two(Kind::Load);
+    let same = taken(0, &s).machine == taken(0, &s[..10]).machine;
     println!(rt;
         "record of 20 bytes, against that of their first 10: {}",
         kept(same)

@@ -187,7 +187,7 @@ pub fn linked_call(t: Task, c: Call) -> Effect
     begin_call(t, c)
 }
 
-// What an entry does to its task t in a machine of n cells and p tasks, or its first refusal after 20 and 19. These go together nowhere else, so there is no struct for them.
+// What an entry does to its task t in a machine of n cells and p tasks, or its first refusal after 20 and 19. A struct for these would be longer than the calls.
 #[tactic(auto)]
 pub fn order(n: u8, p: u8, e: Entry, t: Task, s: Seen) -> Effect
     ensures { result ≡ order_of n p e t s }

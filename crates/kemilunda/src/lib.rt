@@ -30,7 +30,7 @@ fn six(r: Report) -> [u32; 6]
 {
     [
         r.accepted,
-        r.refusal as u32,
+        u32::from(r.refusal),
         r.loads,
         r.load_steps,
         r.turned_back,

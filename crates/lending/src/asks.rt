@@ -18,12 +18,12 @@ fn holding(phase: u8, m: u8) -> Task {
     }
 }
 
-// A list of n linked records, each with node m held, asked for node v. These go together nowhere else, so there is no struct for them.
+// A list of n linked records, each with node m held, asked for node v. A struct for these would be longer than the calls.
 fn alike(rt: &impl Print, label: &str, n: usize, m: u8, v: u8) -> io::Result<()>
     requires { n ≤ 17 }
 {
     let ts = [holding(6, m); 17];
-    println!(rt; "{label}: {}", Holders(ask(&ts, n, NodeNo(v))))
+    println!(rt; "{label}: {}", Holders(ask(&ts[..n], NodeNo(v))))
 }
 
 // A list of n linked records, of which the fourth alone holds node 5.
@@ -32,7 +32,7 @@ fn fourth(rt: &impl Print, label: &str, n: usize) -> io::Result<()>
 {
     let mut ts = [holding(6, 6); 17];
     ts[3] = holding(6, 5);
-    println!(rt; "{label}: {}", Holders(ask(&ts, n, NodeNo(5))))
+    println!(rt; "{label}: {}", Holders(ask(&ts[..n], NodeNo(5))))
 }
 
 // A list of sixteen records in phases 0 to 15, each with node 5 as its m.
@@ -43,7 +43,7 @@ fn phases_to_15(rt: &impl Print) -> io::Result<()> {
     }
     println!(rt;
         "list of 16, phases 0 to 15: {}",
-        Holders(ask(&ts, 16, NodeNo(5)))
+        Holders(ask(&ts[..16], NodeNo(5)))
     )
 }
 
@@ -72,7 +72,7 @@ pub(crate) fn nodes(rt: &impl Print) -> io::Result<()> {
 pub(crate) fn phases(rt: &impl Print) -> io::Result<()> {
     for phase in [2, 3, 9, 10, 11, 12, 13, 14, 15, 16, 255] {
         let ts = [holding(phase, 5); 17];
-        println!(rt; "phase {phase}: {}", Holders(ask(&ts, 1, NodeNo(5))))?;
+        println!(rt; "phase {phase}: {}", Holders(ask(&ts[..1], NodeNo(5))))?;
     }
     Ok(())
 }

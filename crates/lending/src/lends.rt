@@ -15,9 +15,8 @@ pub(crate) fn start_at(ts: &mut [Task; 4], i: usize, c: Call)
 }
 
 // The first n records of a row are lent to `holders`. Seventeen is one more than a list may have.
-pub(crate) fn ask(ts: &[Task; 17], n: usize, node: NodeNo) -> Option<usize>
-    requires { n ≤ 17 }
-    ensures { result ≡ holders_of (take n ts.now) node }
+pub(crate) fn ask(ts: &[Task], node: NodeNo) -> Option<usize>
+    ensures { result ≡ holders_of ts.now node }
 {
-    tasks::holders(&ts[..n], node)
+    tasks::holders(ts, node)
 }

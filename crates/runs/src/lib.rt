@@ -13,7 +13,7 @@ ghost use Rattle.runs.specs.OneEntry.{load_begun, load_step, went_of, counted_by
 use answers::Refusal;
 use cells::Machine;
 
-// Entries accepted, the refusal or 0, loads begun, load steps, turned-back checks, swaps that took: all for one run. Document 01 has the six as numbers.
+// Entries accepted, the refusal or 0, loads begun, load steps, turned-back checks, swaps that took: all for one run. Document 01 has the six as numbers, and C is given them so.
 #[derive(Clone, Copy)]
 pub struct Report {
     pub accepted: u32,
@@ -51,7 +51,7 @@ fn load_step(kind: u8, from: u8) -> u32
     u32::from(kind == 0 && 1 <= from && from <= 5)
 }
 
-// A go entry that goes from phase f to phase g. These go together nowhere else, so there is no struct for them.
+// A go entry that goes from phase f to phase g. A struct for these would be longer than the calls.
 #[tactic(auto, unfolding(crate::specs::OneEntry::went_of))]
 fn went(f: u8, g: u8, kind: u8, from: u8, to: u8) -> u32
     ensures { result ≡ went_of f g kind from to }
@@ -90,7 +90,7 @@ fn note(free_nodes: &mut [u8], i: usize, m: &Machine)
     }
 }
 
-// The reply of entry i. Its eight places are there, and they alone are handed over: so nothing is tested again. These go together nowhere else, so there is no struct for them.
+// The reply of entry i. Its eight places are there, and they alone are handed over: so nothing is tested again. A struct for these would be longer than the calls.
 fn reply(out: &mut [u8], i: usize, number: u8, task: u8, value: u32)
     requires { 8 * i + 8 ≤ length out.old }
     ensures { out.new ≡ overlaid out.old (8 * i) (reply_of number task value) }

@@ -13,7 +13,7 @@ fn refused(err: &impl Print, direction: &str, r: Refusal) -> io::Result<()> {
     println!(err; "{direction} {}", u8::from(r))
 }
 
-// What was made, or its refusal. These go together nowhere else, so there is no struct for them.
+// What was made, or its refusal. A struct for these would be longer than the calls.
 fn tell(
     rt: &impl Print,
     err: &impl Print,

@@ -41,7 +41,7 @@ impl Text {
     }
 }
 
-// What a report has for no refusal, and for the two of a whole schedule. The others are an entry's; 22 by the ranges can't come, as the record is fresh.
+// What a report has for no refusal, and for the two of a whole schedule: numbers, as the report has one. The others are an entry's; 22 by the ranges can't come, as the record is fresh.
 const TAKEN: u8 = 0;
 
 const NO_ROOM: u8 = 21;
@@ -61,9 +61,9 @@ fn replies_in(r: Report) -> usize {
 fn bench(machine: Machine, schedule: &[u8], text: &mut Text) {
     let mut replies = [0u8; 52424];
     let report = runs::run(machine, schedule, &mut replies).report;
-    text.field(b"cells ", machine.n as u32);
-    text.field(b" tasks ", machine.p as u32);
-    text.field(b" nodes ", machine.k as u32);
+    text.field(b"cells ", u32::from(machine.n));
+    text.field(b" tasks ", u32::from(machine.p));
+    text.field(b" nodes ", u32::from(machine.k));
     text.put(b"\n");
     let count = replies_in(report);
     for (i, reply) in (1..).zip(replies.chunks_exact(8).take(count)) {
@@ -71,8 +71,8 @@ fn bench(machine: Machine, schedule: &[u8], text: &mut Text) {
         let task = wire::byte_at(reply, 3);
         let value = wire::word_at(reply, 4);
         text.number(i);
-        text.field(b" ", task as u32);
-        text.field(b" ", number as u32);
+        text.field(b" ", u32::from(task));
+        text.field(b" ", u32::from(number));
         text.field(b" ", value);
         text.put(b"\n");
     }
@@ -85,7 +85,7 @@ fn bench(machine: Machine, schedule: &[u8], text: &mut Text) {
         swaps,
     } = report;
     text.field(b"end ", accepted);
-    for n in [refusal as u32, loads, load_steps, turned_back, swaps] {
+    for n in [u32::from(refusal), loads, load_steps, turned_back, swaps] {
         text.field(b" ", n);
     }
     text.put(b"\n");
@@ -97,7 +97,7 @@ fn answer(input: &[u8], text: &mut Text) {
     let s = Machine::setup(input);
     match s.answer {
         Err(r) => {
-            text.field(b"setup ", u8::from(r) as u32);
+            text.field(b"setup ", u32::from(u8::from(r)));
             text.put(b"\n");
         }
         Ok(used) => bench(s.machine, &input[used..], text),

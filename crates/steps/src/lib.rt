@@ -52,8 +52,8 @@ pub fn next_node(k: u8, v: NodeNo) -> NodeNo
     if k == 0 {
         return NodeNo(0);
     }
-    let i = v.0 as u16;
-    let next = ((i + 1) % (k as u16)) as u8;
+    let i = u16::from(v.0);
+    let next = ((i + 1) % u16::from(k)) as u8;
     NodeNo(next)
 }
 
@@ -69,13 +69,13 @@ fn free_one(count: u8) -> u16
 fn recounted(s: Seen, v: NodeNo, from: u8, to: u8) -> Counted
     ensures { result ≡ recounted_of s v from to }
 {
-    let more = s.free as u16 + free_one(to);
+    let more = u16::from(s.free) + free_one(to);
     let less = free_one(from);
     if more < less {
         return Err(Refusal::Damaged);
     }
     let free = more - less;
-    if (s.nodes as u16) < free {
+    if u16::from(s.nodes) < free {
         return Err(Refusal::Damaged);
     }
     Ok((Write::Count(v, to, free as u8), to))
@@ -118,6 +118,8 @@ fn settled(c: Counted, t: Task, r: Reply) -> Effect
     let (write, _) = c?;
     done(t, write, r)
 }
+
+// The rows: a function each, also where two differ in a phase and a reply, as each row has theorems of its own (`l1_step_one` and so on).
 
 // L1: m becomes the node of x.
 pub fn l1_step(t: Task, s: Seen) -> Effect

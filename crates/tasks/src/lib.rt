@@ -76,7 +76,7 @@ impl Task {
         Task { cursor, ..self }
     }
 
-    // The same record, made anew of its fields: `self` as it is goes over byte by byte, the gaps between them too. It stays beside `Copy` for the theorems of `excluded`.
+    // The same record, made anew of its fields. `Copy` does as much; it stays for `copied_one` and three theorems of `excluded`.
     pub fn copied(self) -> Task
         ensures { result ≡ self }
     {

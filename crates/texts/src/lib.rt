@@ -15,7 +15,7 @@ use answers::Refusal;
 use entries::Entry;
 use tasks::{CellNo, TaskNo};
 
-// The number of an answer: 0, or the refusal's.
+// The number of an answer: 0, or the refusal's. Beside `refusal_or_0`: `text_number_one` and PROMISES name it, and `text_bytes` likewise.
 pub fn text_number(a: Result<usize, Refusal>) -> u8
     ensures { result ≡ text_number a }
 {
@@ -51,7 +51,7 @@ fn field_at(s: &[u8], at: usize, close: u8) -> Option<(u64, usize)>
     Some((value, end + 1))
 }
 
-// The entry of a line's numbers, and the place behind the line; or 31 for a number too large: one test for the four, in place of a `try_from` for each. These go together nowhere else, so there is no struct for them.
+// The entry of a line's numbers, and the place behind the line; or 31 for a number too large: one test for the four, in place of a `try_from` for each. A struct for these would be longer than the calls.
 #[tactic(auto, unfolding(crate::specs::Steps::sized))]
 fn sized(
     task: u64,
@@ -155,9 +155,9 @@ fn plain_entry(s: &[u8]) -> Result<Entry, Refusal>
 fn line_length(e: Entry) -> usize
     ensures { (result ≡ length (line_of e)) × (result ≤ 44) }
 {
-    let task = digits::digits_in(e.task.0 as u32);
-    let kind = digits::digits_in(e.kind as u32);
-    let cell = digits::digits_in(e.cell.0 as u32);
+    let task = digits::digits_in(u32::from(e.task.0));
+    let kind = digits::digits_in(u32::from(e.kind));
+    let cell = digits::digits_in(u32::from(e.cell.0));
     let value = digits::digits_in(e.value);
     task + kind + cell + value + 4
 }
@@ -191,9 +191,9 @@ fn put_line(text: &mut [u8], at: usize, e: Entry) -> usize
     requires { at + length (line_of e) ≤ length text.old }
     ensures { (result ≡ at + length (line_of e)) × (text.new ≡ overlaid text.old at (line_of e)) }
 {
-    let kind_at = put_field(text, at, e.task.0 as u32, b',');
-    let cell_at = put_field(text, kind_at, e.kind as u32, b',');
-    let value_at = put_field(text, cell_at, e.cell.0 as u32, b',');
+    let kind_at = put_field(text, at, u32::from(e.task.0), b',');
+    let cell_at = put_field(text, kind_at, u32::from(e.kind), b',');
+    let value_at = put_field(text, cell_at, u32::from(e.cell.0), b',');
     put_field(text, value_at, e.value, b'\n')
 }
 

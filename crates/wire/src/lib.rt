@@ -59,29 +59,31 @@ pub fn has_room(len: usize, at: usize, n: usize) -> bool
     at <= len - n
 }
 
-// A mark from place `at` on; nothing where there is no room for it. The same of what follows.
+// Bytes from place `at` on; nothing where there is no room for them. The same of what follows.
 #[tactic(auto, unfolding(crate::specs::Bytes::fitted))]
+fn put(out: &mut [u8], at: usize, bytes: &[u8])
+    ensures { out.new ≡ fitted out.old at bytes.now }
+{
+    if has_room(out.len(), at, bytes.len()) {
+        out[at..at + bytes.len()].copy_from_slice(bytes);
+    }
+}
+
+// A mark.
 pub fn put_mark(out: &mut [u8], at: usize, mark: [u8; 2])
     ensures { out.new ≡ fitted out.old at mark }
 {
-    if !has_room(out.len(), at, 2) {
-        return;
-    }
-    out[at..at + 2].copy_from_slice(&mark);
+    put(out, at, &mark);
 }
 
 // A number in four bytes, the lowest first.
-#[tactic(auto, unfolding(crate::specs::Bytes::fitted))]
 pub fn put_word(out: &mut [u8], at: usize, value: u32)
     ensures { out.new ≡ fitted out.old at (little_endian value) }
 {
-    if !has_room(out.len(), at, 4) {
-        return;
-    }
-    out[at..at + 4].copy_from_slice(&value.to_le_bytes());
+    put(out, at, &value.to_le_bytes());
 }
 
-// A reply record. These go together nowhere else, so there is no struct for them.
+// A reply record. A struct for these would be longer than the calls.
 #[tactic(auto, using(crate::proofs::Laws::no_room, crate::proofs::Laws::two, crate::proofs::Laws::framed))]
 pub fn put_reply(out: &mut [u8], at: usize, number: u8, task: u8, value: u32)
     ensures { out.new ≡ fitted out.old at (reply_of number task value) }
