@@ -1,7 +1,6 @@
 -- `run_entries`: what is left of the run gives the whole.
-use Rattle.std.proofs.Common.{◌≡◌, Ok, Err, ◌+◌, rules, refl, ap, sym, ◌∙◌, arith}
-use Rattle.runs.proofs.Going.{starts, ends, fits}
-use Rattle.runs.proofs.Laws.{few_le}
+use Rattle.std.proofs.Common.{◌≡◌, Ok, Err, ◌+◌, rules, refl, ap, sym, ◌∙◌}
+use Rattle.runs.proofs.Going.{starts, ends}
 use Rattle.runs.proofs.Turning.{next-bytes, bytes-left, more-bytes, no-bytes, unread, turned-back, taken}
 use Rattle.runs.proofs.run_entries.Goals as goal
 
@@ -9,21 +8,7 @@ pub loop-i-init : goal.loop-i-init
 loop-i-init c =
     let a = c.args in
     let count : c.into_iter-i-iterator.result.count ≡ 0 = search rules in
-    (search rules, tt, search rules, search rules, rw (count, c.no_report-report.ensures) (record { going = starts a.s.now a.out.now a.free_nodes.now a.m.now; long = c.requires.2; sound = c.requires.3 }))
-
-pub reply-requires : goal.reply-requires
-reply-requires c =
-    let l = c.loop-i in
-    let steps = c.in-Some.ensures.steps in
-    let more = more-bytes c.args.s.now l.i-iterator.count _ _ c.in-Some.bytes.now _ l.invariant.2 l.invariant.3 steps.0.1.0 steps.0.1.1 steps.0.1.2 in
-    omega (arith, steps.1, fits _ _ _ _ _ _ _ _ _ l.invariant.4.going more c.requires.1)
-
-pub counted-report-requires : goal.counted-report-requires
-counted-report-requires c =
-    let l = c.loop-i in
-    let steps = c.in-Some.ensures.steps in
-    let more = more-bytes c.args.s.now l.i-iterator.count _ _ c.in-Some.bytes.now _ l.invariant.2 l.invariant.3 steps.0.1.0 steps.0.1.1 steps.0.1.2 in
-    few_le _ 6553 _ (omega (arith, more, c.requires.0)) l.invariant.4.going.few
+    (search rules, search rules, rw (count, c.no_report-report.ensures) (record { going = starts a.s.now a.out.now a.free_nodes.now a.m.now; long = c.requires.2; sound = c.requires.3 }))
 
 pub returns-in-Err : goal.returns-in-Err
 returns-in-Err c =
@@ -31,9 +16,9 @@ returns-in-Err c =
     let steps = c.in-Some.ensures.steps.0 in
     let n = c.from-number.ensures in
     let at : c.in-Some.i ≡ l.i-iterator.count = c.in-Some.ensures.steps.1 in
-    let more = more-bytes c.args.s.now l.i-iterator.count _ _ c.in-Some.bytes.now _ l.invariant.2 l.invariant.3 steps.1.0 steps.1.1 steps.1.2 in
-    let bytes = next-bytes c.args.s.now l.i-iterator.count _ _ _ _ l.invariant.2 l.invariant.3 steps.1.0 steps.1.1 in
-    unread l.invariant.4 more c.requires.1 _ bytes c.in-Err.r (sym c.read_entry.ensures ∙ c.in-Err.is)
+    let more = more-bytes c.args.s.now l.i-iterator.count _ _ c.in-Some.bytes.now _ l.invariant.0 l.invariant.1 steps.1.0 steps.1.1 steps.1.2 in
+    let bytes = next-bytes c.args.s.now l.i-iterator.count _ _ _ _ l.invariant.0 l.invariant.1 steps.1.0 steps.1.1 in
+    unread l.invariant.2 more c.requires.1 _ bytes c.in-Err.r (sym c.read_entry.ensures ∙ c.in-Err.is)
     _ (c.reply.ensures ∙ rw (at, n) refl) _ (c.note.ensures ∙ rw at refl) _ (c.stopped.ensures ∙ rw n refl)
 
 pub returns-in-Err-turn : goal.returns-in-Err-turn
@@ -42,9 +27,9 @@ returns-in-Err-turn c =
     let steps = c.in-Some.ensures.steps.0 in
     let n = c.from-number-in-Err-turn.ensures in
     let at : c.in-Some.i ≡ l.i-iterator.count = c.in-Some.ensures.steps.1 in
-    let more = more-bytes c.args.s.now l.i-iterator.count _ _ c.in-Some.bytes.now _ l.invariant.2 l.invariant.3 steps.1.0 steps.1.1 steps.1.2 in
-    let bytes = next-bytes c.args.s.now l.i-iterator.count _ _ _ _ l.invariant.2 l.invariant.3 steps.1.0 steps.1.1 in
-    turned-back l.invariant.4 more c.requires.1 _ bytes c.in-Ok.e (sym c.read_entry.ensures ∙ c.in-Ok.is) c.turn.new.m (Err c.in-Err-turn.r) c.in-Err-turn.ensures
+    let more = more-bytes c.args.s.now l.i-iterator.count _ _ c.in-Some.bytes.now _ l.invariant.0 l.invariant.1 steps.1.0 steps.1.1 steps.1.2 in
+    let bytes = next-bytes c.args.s.now l.i-iterator.count _ _ _ _ l.invariant.0 l.invariant.1 steps.1.0 steps.1.1 in
+    turned-back l.invariant.2 more c.requires.1 _ bytes c.in-Ok.e (sym c.read_entry.ensures ∙ c.in-Ok.is) c.turn.new.m (Err c.in-Err-turn.r) c.in-Err-turn.ensures
     _ (c.reply-in-Err-turn.ensures ∙ rw (at, n) refl) _ (c.note-in-Err-turn.ensures ∙ rw at refl) _ refl (c.stopped-in-Err-turn.ensures ∙ rw n refl)
 
 pub loop-i-preserved : goal.loop-i-preserved
@@ -55,14 +40,12 @@ loop-i-preserved c =
     let v = c.reply_value.ensures in
     let at : c.in-Some.i ≡ l.i-iterator.count = c.in-Some.ensures.steps.1 in
     let next : c.next.new.self.count ≡ l.i-iterator.count + 1 = c.in-Some.ensures.steps.2 in
-    let more = more-bytes c.args.s.now l.i-iterator.count _ _ c.in-Some.bytes.now _ l.invariant.2 l.invariant.3 steps.1.0 steps.1.1 steps.1.2 in
-    let bytes = next-bytes c.args.s.now l.i-iterator.count _ _ _ _ l.invariant.2 l.invariant.3 steps.1.0 steps.1.1 in (
-      search rules,
-      tt,
-      steps.0 ∙ l.invariant.2,
-      bytes-left c.args.s.now l.i-iterator.count _ _ _ _ l.invariant.2 l.invariant.3 steps.1.0 steps.1.1 ∙ rw next refl,
+    let more = more-bytes c.args.s.now l.i-iterator.count _ _ c.in-Some.bytes.now _ l.invariant.0 l.invariant.1 steps.1.0 steps.1.1 steps.1.2 in
+    let bytes = next-bytes c.args.s.now l.i-iterator.count _ _ _ _ l.invariant.0 l.invariant.1 steps.1.0 steps.1.1 in (
+      steps.0 ∙ l.invariant.0,
+      bytes-left c.args.s.now l.i-iterator.count _ _ _ _ l.invariant.0 l.invariant.1 steps.1.0 steps.1.1 ∙ rw next refl,
       rw next
-          (taken l.invariant.4 more c.requires.1 _ bytes c.in-Ok.e (sym c.read_entry.ensures ∙ c.in-Ok.is) c.turn.new.m (Ok c.in-Ok-turn.r) c.in-Ok-turn.ensures
+          (taken l.invariant.2 more c.requires.1 _ bytes c.in-Ok.e (sym c.read_entry.ensures ∙ c.in-Ok.is) c.turn.new.m (Ok c.in-Ok-turn.r) c.in-Ok-turn.ensures
           _ (c.reply-in-Ok-turn.ensures ∙ rw (at, n, v) refl) _ (c.note-in-Ok-turn.ensures ∙ rw at refl) _ refl
           (c.counted-report.ensures ∙ rw (c.task-from.ensures, c.task.ensures) refl)),
     )
@@ -70,5 +53,5 @@ loop-i-preserved c =
 pub returns : goal.returns
 returns c =
     let l = c.loop-i in
-    let o = ends _ _ _ _ _ _ _ _ _ l.invariant.4.going (no-bytes c.args.s.now l.i-iterator.count _ l.invariant.3 c.in-None.ensures.steps.0.1.0) in
+    let o = ends _ _ _ _ _ _ _ _ _ l.invariant.2.going (no-bytes c.args.s.now l.i-iterator.count _ l.invariant.1 c.in-None.ensures.steps.0.1.0) in
     (ap (λ y. y.machine) o.0, ap (λ y. y.report) o.0, o.1, o.2)

@@ -35,9 +35,6 @@ returns-then-out-len c =
     let more = lt-leb _ _ short in
     (rw (sound, less, lt-ltb _ _ short) refl, rw (c.untried-then-out-len.ensures, sound, less, lt-ltb _ _ short) refl, rw (sound, fits, more) refl, rw (sound, fits, more) refl)
 
-pub run_entries-requires : goal.run_entries-requires
-run_entries-requires c = (c.if-len-gt65530.false, c.if-out-len.false, c.requires, sym (c.if-not-in_range.ensures {u = tt}))
-
 pub returns : goal.returns
 unfolding ran_of replies_of buffer_of noted_of
 returns c =

@@ -14,17 +14,17 @@ returns-in_err-e c =
     let p = err_from_is_err_and c.from_residual.result c.from_residual.ensures.1 in
     let i = c.loop-piece.invariant in
     let t = c.in-Some.ensures.steps in
-    rw (p.1, p.2) (check_stops text_made c.args.entries.now _ _ _ i.3 (entry_stops _ c.in-Some.piece.now (chunks_rest c.next.new.self) t.1.0 (rw i.2 at t.1.1) t.1.2 _ c.in_err-e.ensures))
+    rw (p.1, p.2) (check_stops text_made c.args.entries.now _ _ _ i.1 (entry_stops _ c.in-Some.piece.now (chunks_rest c.next.new.self) t.1.0 (rw i.0 at t.1.1) t.1.2 _ c.in_err-e.ensures))
 
 pub loop-piece-preserved : goal.loop-piece-preserved
 loop-piece-preserved c =
     let i = c.loop-piece.invariant in
     let t = c.in-Some.ensures.steps in
-    let size = rw i.2 at t.1.1 in
-    let i4 = i.4 in
+    let size = rw i.0 at t.1.1 in
+    let i2 = i.2 in
     let e = entry_goes _ c.in-Some.piece.now (chunks_rest c.next.new.self) t.1.0 size t.1.2 _ c.in_ok-e.ensures in
     let long = c.line_length-made.ensures in
-    (search rules, tt, search rules, rw long.0 (check_on text_made c.args.entries.now _ _ (line_of c.in_ok-e.e) _ i.3 e), let some = t.1.2 in omega (arith, ap (length {A = ℕ}) t.1.0, length-append c.in-Some.piece.now (chunks_rest c.next.new.self)))
+    (search rules, rw long.0 (check_on text_made c.args.entries.now _ _ (line_of c.in_ok-e.e) _ i.1 e), let some = t.1.2 in omega (arith, ap (length {A = ℕ}) t.1.0, length-append c.in-Some.piece.now (chunks_rest c.next.new.self)))
 
 pub returns : goal.returns
-returns c = check_ends text_made c.args.entries.now _ _ c.loop-piece.invariant.3 c.in-None.ensures.steps.1.0 nothing_from
+returns c = check_ends text_made c.args.entries.now _ _ c.loop-piece.invariant.1 c.in-None.ensures.steps.1.0 nothing_from

@@ -7,8 +7,6 @@ use Rattle.texts.proofs.check_entries.Given as goal
 -- what is left of the entries gives the whole, and a line has at most 44 bytes
 abbrev pub invariant-loop-piece : goal.invariant-loop-piece
 invariant-loop-piece l =
-    (goal.iterator-loop-piece).can_next l.piece-iterator
-    × (goal.iterator-loop-piece).is_finite l.piece-iterator
-    × (chunks_size l.piece-iterator ≡ 10)
+    (chunks_size l.piece-iterator ≡ 10)
     × Checking text_made l.entries (chunks_rest l.piece-iterator) l.made
     × (l.made + 44 * length (chunks_rest l.piece-iterator) ≤ 44 * 65530)

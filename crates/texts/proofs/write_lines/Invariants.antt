@@ -7,7 +7,5 @@ use Rattle.texts.proofs.write_lines.Given as goal
 -- what is left to write gives the whole
 abbrev pub invariant-loop-piece : goal.invariant-loop-piece
 invariant-loop-piece l =
-    (goal.iterator-loop-piece).can_next l.piece-iterator
-    × (goal.iterator-loop-piece).is_finite l.piece-iterator
-    × (chunks_size l.piece-iterator ≡ 10)
+    (chunks_size l.piece-iterator ≡ 10)
     × Writing text_made l.entries l.initial.text (chunks_rest l.piece-iterator) l.to l.text
