@@ -17,6 +17,7 @@ use Rattle.tables.specs.Tables.{sizes_ok, cell_ok, count_ok, task_ok_in, task_in
 use Rattle.tables.proofs.Laws.{sizes_bounds}
 use Rattle.entries.specs.Entry.{entry_of}
 use Rattle.entries.specs.Order.{order_of}
+use Rattle.entries.proofs.Laws.{entry_read}
 use Rattle.cells.specs.Types.{Machine, TaskNo, Task, Seen, Deed, Effect, NoTask, Entry, Decision}
 use Rattle.cells.specs.Machine.{seen_of, placed, left_by, pool_ok, tables_ok, in_range}
 use Rattle.cells.specs.Apply.{judged_of, guarded, decision_of}
@@ -88,7 +89,33 @@ module _ (m : Machine) where
   unfolding decision_of
   decision_does s x h = guarded_does x (in_range m) _ h (λ g i. judged_does x (entry_of s) (few_in_range m g) i)
 
+  -- which is the number in byte 2
+  guarded_names : (i : ℕ) (x : Deed) (b : Bool) (d : Decision) → (guarded b d).effect ≡ Ok x → (d.effect ≡ Ok x → i ≡ d.task) → i ≡ (guarded b d).task
+  guarded_names i x true d h f = f h
+  guarded_names i x false d h f = let z : ◌≡◌ {A = ℕ} 0 1 = cc in absurd (omega arith)
+
+  judged_names : (s : List ℕ) (x : Deed) (r : Result Entry Refusal) → entry_of s ≡ r → (judged_of m.n m.p (task_in m.tasks) (seen_of m) r).effect ≡ Ok x
+      → get_or s 2 0 ≡ (judged_of m.n m.p (task_in m.tasks) (seen_of m) r).task
+  unfolding judged_of
+  judged_names s x (Err y) is h = let z : ◌≡◌ {A = ℕ} 0 1 = cc in absurd (omega arith)
+  judged_names s x (Ok e) is h = sym (entry_read s e is).task
+
+  pub decision_names : (s : List ℕ) (x : Deed) → (decision_of m s).effect ≡ Ok x → get_or s 2 0 ≡ (decision_of m s).task
+  unfolding decision_of
+  decision_names s x h = guarded_names (get_or s 2 0) x (in_range m) _ h (judged_names s x (entry_of s) refl)
+
   -- so it is written there
   pub left_placed : (p : TaskNo) (e : Effect) → ((x : Deed) → e ≡ Ok x → p.0 ≤ 15) → left_by m (placed p) e ≡ left_by m p e
   left_placed p (Err r) own = refl
   left_placed p (Ok d) own = let fits = own d refl in let same : min p.0 15 ≡ p.0 = omega arith in ap (λ (k : ℕ). left_by m (record { 0 = k }) (Ok d)) same
+
+  -- also by that byte
+  pub left_named : (s : List ℕ) → left_by m (placed (record { 0 = get_or s 2 0 })) (decision_of m s).effect ≡ left_by m (record { 0 = (decision_of m s).task }) (decision_of m s).effect
+  left_named s = by (decision_of m s).effect (λ x h. h)
+    where
+      own : (x : Deed) → (decision_of m s).effect ≡ Ok x → min (get_or s 2 0) 15 ≡ (decision_of m s).task
+      own x h = let names = decision_names s x h in let fits = decision_does s x h in omega arith
+
+      by : (e : Effect) → ((x : Deed) → e ≡ Ok x → (decision_of m s).effect ≡ Ok x) → left_by m (placed (record { 0 = get_or s 2 0 })) e ≡ left_by m (record { 0 = (decision_of m s).task }) e
+      by (Err r) is = refl
+      by (Ok d) is = ap (λ (k : ℕ). left_by m (record { 0 = k }) (Ok d)) (own d (is d refl))

@@ -1,6 +1,10 @@
 -- Any two results that a public function's contract allows are equal, and so is what a lent place holds when the function returns. Assumes nothing.
 use mathlib.Core.Path.{refl, sym, ◌∙◌}
 use Rattle.contracts.specs.One.{One}
+use Rattle.cells.proofs.seen.Kinds as seen-lent·k
+use Rattle.cells.proofs.seen.Reads as seen-lent
+use Rattle.cells.proofs.tables_ok.Kinds as tables-lent·k
+use Rattle.cells.proofs.tables_ok.Reads as tables-lent
 use Rattle.cells.proofs.Machine.seen.Kinds as seen·k
 use Rattle.cells.proofs.Machine.seen.Reads as seen
 use Rattle.cells.proofs.Machine.tables_ok.Kinds as tables-ok·k
@@ -43,6 +47,12 @@ use Rattle.cells.proofs.setup_number.Kinds as setup-number·k
 use Rattle.cells.proofs.setup_number.Reads as setup-number
 use Rattle.cells.proofs.setup_bytes.Kinds as setup-bytes·k
 use Rattle.cells.proofs.setup_bytes.Reads as setup-bytes
+
+pub seen_lent_one : One seen-lent·k.ps seen-lent·k.r seen-lent.Pre seen-lent.Post
+seen_lent_one κs a z z' ws ws' p q q' = (q ∙ sym q', refl)
+
+pub tables_ok_lent_one : One tables-lent·k.ps tables-lent·k.r tables-lent.Pre tables-lent.Post
+tables_ok_lent_one κs a z z' ws ws' p q q' = (q ∙ sym q', refl)
 
 pub seen_one : One seen·k.ps seen·k.r seen.Pre seen.Post
 seen_one κs a z z' ws ws' p q q' = (q ∙ sym q', refl)

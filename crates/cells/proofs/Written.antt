@@ -1,13 +1,12 @@
 -- A task's record, the one place and the number of free nodes, written where they lie, give the machine after the step. Assumes nothing.
-use Rattle.std.specs.Prelude.{Ok}
 use Prim.Native.Nat.{ℕ}
 use mathlib.Core.Path.{◌≡◌, refl, ◌∙◌}
 use mathlib.Core.List.{List}
 use lib.ListN.{length, set, length-set}
 use Rattle.tables.specs.Tables.{put_in}
 use Rattle.tables.proofs.Laws.{put-set}
-use Rattle.cells.specs.Types.{Machine, TaskNo, Task, Write, Nothing, Point, Count, Value, Deed}
-use Rattle.cells.specs.Machine.{cells_by, values_by, counts_by, free_by, cells_after, values_after, counts_after, written, left_by, Long}
+use Rattle.cells.specs.Types.{Machine, TaskNo, Task, Write, Nothing, Point, Count, Value}
+use Rattle.cells.specs.Machine.{cells_by, values_by, counts_by, free_by, cells_after, values_after, counts_after, written, Long}
 
 cells-put : (m : Machine) (w : Write) → length m.cells ≡ 64 → cells_by (put_in 64) w m.cells ≡ cells_after m w
 cells-put m Nothing h = refl
@@ -27,11 +26,11 @@ counts-put m (Point x v) h = refl
 counts-put m (Count v c f) h = put-set 128 m.counts v.0 c h
 counts-put m (Value v y) h = refl
 
--- an effect that does something leaves this of the machine
-pub put_written : (m : Machine) → Long m → (p : TaskNo) (d : Deed) (cs vs ns : List ℕ) (ts : List Task) (f : ℕ) → cs ≡ cells_by (put_in 64) d.write m.cells → vs ≡ values_by (put_in 128) d.write m.values → ns ≡ counts_by (put_in 128) d.write m.counts → f ≡ free_by d.write m.free → ts ≡ set m.tasks p.0 d.task
-    → record { n = m.n; p = m.p; k = m.k; free = f; cells = cs; values = vs; counts = ns; tasks = ts } ≡ left_by m p (Ok d)
-put_written m long p d cs vs ns ts f hc hv hn hf ht =
-    rw (hc ∙ cells-put m d.write long.cells, hv ∙ values-put m d.write long.values, hn ∙ counts-put m d.write long.counts, hf, ht)
+-- a step leaves this of the machine
+pub put_written : (m : Machine) → Long m → (p : TaskNo) (t : Task) (w : Write) (cs vs ns : List ℕ) (ts : List Task) (f : ℕ) → cs ≡ cells_by (put_in 64) w m.cells → vs ≡ values_by (put_in 128) w m.values → ns ≡ counts_by (put_in 128) w m.counts → f ≡ free_by w m.free → ts ≡ set m.tasks p.0 t
+    → record { n = m.n; p = m.p; k = m.k; free = f; cells = cs; values = vs; counts = ns; tasks = ts } ≡ written m p t w
+put_written m long p t w cs vs ns ts f hc hv hn hf ht =
+    rw (hc ∙ cells-put m w long.cells, hv ∙ values-put m w long.values, hn ∙ counts-put m w long.counts, hf, ht)
 
 -- no write changes a table's length
 cells-after : (m : Machine) (w : Write) → length (cells_after m w) ≡ length m.cells

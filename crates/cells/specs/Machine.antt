@@ -47,15 +47,6 @@ free_by (Point x v) free = free
 free_by (Count v c f) free = f
 free_by (Value v y) free = free
 
--- the record of t after an effect, and the one place that it writes: a refusal leaves the one and has no other
-abbrev pub task_by : Effect → Task → Task
-task_by (Err r) t = t
-task_by (Ok d) t = d.task
-
-abbrev pub write_by : Effect → Write
-write_by (Err r) = Nothing
-write_by (Ok d) = d.write
-
 -- each table of a machine after a write
 abbrev pub cells_after : Machine → Write → List ℕ
 cells_after m w = cells_by set w m.cells
@@ -84,7 +75,7 @@ written m p t w =
 abbrev pub refused_by : Machine → ℕ → Refusal → Applied
 refused_by m i r = record { machine = m; answer = Err r; task = i }
 
--- where a lent machine has the record of task p: a number past the 16th stands for the last, and no entry of such a task is accepted
+-- where a lent machine has the record of task p: a number past the 16th stands for the last. A machine in range accepts no entry of such a task
 abbrev pub placed : TaskNo → TaskNo
 placed p = record { 0 = min p.0 15 }
 

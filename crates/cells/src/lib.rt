@@ -8,7 +8,7 @@ ghost use Rattle.std.specs.Prelude.{◌≡◌};
 ghost use Rattle.tasks.specs.Holders.{held_among};
 ghost use Rattle.steps.specs.Table.{answer_of};
 ghost use Rattle.tables.specs.Tables.{task_in, put_in};
-ghost use Rattle.cells.specs.Machine.{seen_of, cells_by, values_by, counts_by, free_by, placed, left_by, tables_ok, in_range};
+ghost use Rattle.cells.specs.Machine.{seen_in, seen_of, cells_by, values_by, counts_by, free_by, placed, written, left_by, tables_ok, in_range};
 ghost use Rattle.cells.specs.Apply.{decision_of, apply_of};
 ghost use Rattle.cells.specs.Setup.{setup_of, setup_number, setup_bytes};
 
@@ -76,6 +76,36 @@ pub struct Decision {
     pub effect: Effect,
 }
 
+// What a step of the task record t may look at in lent tables, of p tasks and k nodes, of which so many are free. A table may be shorter than a machine's.
+pub fn seen<'a>(
+    cells: &'a [u8],
+    values: &'a [u32],
+    counts: &'a [u8],
+    t: Task,
+    p: u8,
+    k: u8,
+    free: u8,
+) -> Seen
+    ensures { result ≡ seen_in cells.now values.now counts.now t p k free }
+{
+    Seen {
+        here: node_at(cells, t.cell),
+        held_count: count_at(counts, t.held),
+        cursor_count: count_at(counts, t.cursor),
+        held_value: value_at(values, t.held),
+        tasks: p,
+        nodes: k,
+        free,
+    }
+}
+
+// The range test (22) of all but the task records, of lent tables likewise.
+pub fn tables_ok<'a>(n: u8, p: u8, k: u8, free: u8, cells: &'a [u8], counts: &'a [u8]) -> bool
+    ensures { result ≡ tables_ok n p k free cells.now counts.now }
+{
+    free::pool_ok(n, p, k, free) && tables::cells_ok(cells, n, k) && tables::counts_ok(counts, k, p)
+}
+
 // A step's one write, put into the table that it belongs to; the other tables are left alone. A function for each, as each has a case of `Write` of its own.
 
 pub fn write_cells(cells: &mut [u8; 64], w: Write)
@@ -112,6 +142,13 @@ pub fn write_free(free: u8, w: Write) -> u8
     }
 }
 
+// Whose record stands for task p's: its own, or the last for a number past the 16th.
+fn placed(p: TaskNo) -> TaskNo
+    ensures { result ≡ placed p }
+{
+    if p.0 < 16 { p } else { TaskNo(15) }
+}
+
 impl Machine {
     pub fn task_at(&self, p: TaskNo) -> Task
         ensures { result ≡ task_in self.now.tasks p }
@@ -123,31 +160,29 @@ impl Machine {
     pub fn task(&self, p: TaskNo) -> Task
         ensures { result ≡ task_in self.now.tasks (placed p) }
     {
-        self.tasks[tables::slot(p)]
+        self.task_at(placed(p)).copied()
     }
 
     // What a step of the task record t may look at.
     pub fn seen(&self, t: Task) -> Seen
         ensures { result ≡ seen_of self.now t }
     {
-        Seen {
-            here: node_at(&self.cells, t.cell),
-            held_count: count_at(&self.counts, t.held),
-            cursor_count: count_at(&self.counts, t.cursor),
-            held_value: value_at(&self.values, t.held),
-            tasks: self.p,
-            nodes: self.k,
-            free: self.free,
-        }
+        seen(
+            &self.cells,
+            &self.values,
+            &self.counts,
+            t,
+            self.p,
+            self.k,
+            self.free,
+        )
     }
 
     // The range test (22) of all but the task records.
     pub fn tables_ok(&self) -> bool
         ensures { result ≡ tables_ok self.now.n self.now.p self.now.k self.now.free self.now.cells self.now.counts }
     {
-        free::pool_ok(self.n, self.p, self.k, self.free)
-            && tables::cells_ok(&self.cells, self.n, self.k)
-            && tables::counts_ok(&self.counts, self.k, self.p)
+        tables_ok(self.n, self.p, self.k, self.free, &self.cells, &self.counts)
     }
 
     // The range test (22).
@@ -157,17 +192,23 @@ impl Machine {
         self.tables_ok() && tables::tasks_ok(&self.tasks, self.n, self.p, self.k)
     }
 
-    // The one place where an effect is written back: it holds the task's record and the one place that changes. A refusal writes nothing.
-    pub fn carry(&mut self, p: TaskNo, e: Effect) -> Answer
-        ensures { (self.new ≡ left_by self.old (placed p) e) × (result ≡ answer_of e) }
+    // The one place where a step is written back: it holds the task's record and the one place that changes.
+    fn write(&mut self, p: TaskNo, t: Task, w: Write)
+        ensures { self.new ≡ written self.old (placed p) t w }
     {
-        let d = e?;
-        let w = d.write;
         write_cells(&mut self.cells, w);
         write_values(&mut self.values, w);
         write_counts(&mut self.counts, w);
         self.free = write_free(self.free, w);
-        self.tasks[tables::slot(p)] = d.task;
+        self.tasks[tables::slot(p)] = t.copied();
+    }
+
+    // An effect, carried out. A refusal writes nothing.
+    pub fn carry(&mut self, p: TaskNo, e: Effect) -> Answer
+        ensures { (self.new ≡ left_by self.old (placed p) e) × (result ≡ answer_of e) }
+    {
+        let d = e?;
+        self.write(p, d.task, d.write);
         Ok(d.reply)
     }
 
@@ -204,7 +245,7 @@ impl Machine {
         ensures { result ≡ apply_of self s.now }
     {
         let d = self.decided(s);
-        let answer = self.carry(TaskNo(d.task), d.effect);
+        let answer = self.carry(TaskNo(wire::byte_at(s, 2)), d.effect);
         Applied {
             machine: self,
             answer,

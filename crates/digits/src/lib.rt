@@ -59,32 +59,38 @@ pub fn number_at(s: &[u8], at: usize) -> Option<(u64, usize)>
     Some((value, end))
 }
 
-// How many digits n has: one for 0 too.
-#[tactic(auto, using(crate::proofs::Writing::length_power))]
+// How many digits n has: one for 0 too. Most have one, and need no logarithm.
+#[tactic(auto, using(crate::proofs::Writing::length_one, crate::proofs::Writing::length_power))]
 pub fn digits_in(n: u32) -> usize
     ensures { result ≡ length (decimal n) }
 {
-    n.max(1).ilog10() as usize + 1
+    if n < 10 { 1 } else { n.ilog10() as usize + 1 }
 }
 
-// The digits of n from place `at` up to place `end`, the last one first.
-#[tactic(auto, using(crate::proofs::Writing::writing_starts, crate::proofs::Writing::writing_on, crate::proofs::Writing::writing_ends))]
+// The digits of n from place `at` up to place `end`, the last one first. The first is what is left: so a number of one digit is not divided.
+#[tactic(auto, using(crate::proofs::Writing::length_some, crate::proofs::Writing::writing_starts, crate::proofs::Writing::one_left, crate::proofs::Writing::writing_ends))]
 fn put_digits(out: &mut [u8], at: usize, end: usize, n: u32)
     requires { (end ≡ at + length (decimal n)) × (end ≤ length out.old) }
     ensures { out.new ≡ overlaid out.old at (decimal n) }
 {
     let mut rest = n;
-    for i in (at..end).rev() {
+    for i in (at + 1..end).rev() {
         out[i] = b'0' + (rest % 10) as u8;
         rest /= 10;
     }
+    out[at] = b'0' + rest as u8;
 }
 
 // The text of n from place `at` on, and where it ends; nothing, and `at`, if there is no room for it: so a caller writes on from there either way.
-#[tactic(auto, unfolding(crate::specs::Decimal::number_end, wire::specs::Bytes::fitted))]
+#[tactic(auto, using(crate::proofs::Writing::digit_end, crate::proofs::Writing::digit_put), unfolding(crate::specs::Decimal::number_end, wire::specs::Bytes::fitted))]
 pub fn put_number(out: &mut [u8], at: usize, n: u32) -> usize
     ensures { (result ≡ number_end out.old at n) × (out.new ≡ fitted out.old at (decimal n)) }
 {
+    // most numbers have one digit
+    if n < 10 && at < out.len() {
+        out[at] = b'0' + n as u8;
+        return at + 1;
+    }
     let count = digits_in(n);
     if !wire::has_room(out.len(), at, count) {
         return at;

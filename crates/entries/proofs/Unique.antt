@@ -1,6 +1,8 @@
 -- Any two results that a public function's contract allows are equal, and so is what a lent place holds when the function returns. Assumes nothing.
 use mathlib.Core.Path.{refl, sym, ◌∙◌}
 use Rattle.contracts.specs.One.{One}
+use Rattle.entries.proofs.entry_at.Kinds as entry-at·k
+use Rattle.entries.proofs.entry_at.Reads as entry-at
 use Rattle.entries.proofs.read_entry.Kinds as read-entry·k
 use Rattle.entries.proofs.read_entry.Reads as read-entry
 use Rattle.entries.proofs.put_entry.Kinds as put-entry·k
@@ -15,6 +17,9 @@ use Rattle.entries.proofs.linked_call.Kinds as linked-call·k
 use Rattle.entries.proofs.linked_call.Reads as linked-call
 use Rattle.entries.proofs.order.Kinds as order·k
 use Rattle.entries.proofs.order.Reads as order
+
+pub entry_at_one : One entry-at·k.ps entry-at·k.r entry-at.Pre entry-at.Post
+entry_at_one κs a z z' ws ws' p q q' = (q ∙ sym q', refl)
 
 pub read_entry_one : One read-entry·k.ps read-entry·k.r read-entry.Pre read-entry.Post
 read_entry_one κs a z z' ws ws' p q q' = (q ∙ sym q', refl)

@@ -3,7 +3,7 @@
 
 ghost use Rattle.std.specs.Prelude.{◌≡◌};
 ghost use Rattle.wire.specs.Bytes.{fitted};
-ghost use Rattle.entries.specs.Entry.{entry_of, entry_bytes};
+ghost use Rattle.entries.specs.Entry.{entry_at, entry_of, entry_bytes};
 ghost use Rattle.tasks.specs.Phases.{resting};
 ghost use Rattle.entries.specs.Order.{begins, load_of, linked_to, store_of, linked_call_of, order_of};
 ghost use Rattle.entries.specs.Asking.{plain_of, asked_of};
@@ -22,6 +22,19 @@ pub struct Entry {
     pub value: u32,
 }
 
+// The entry that the first ten bytes are, whatever their mark; one that is not there counts as 0.
+pub fn entry_at(s: &[u8]) -> Entry
+    ensures { result ≡ entry_at s.now }
+{
+    Entry {
+        task: TaskNo(wire::byte_at(s, 2)),
+        kind: wire::byte_at(s, 3),
+        cell: CellNo(wire::byte_at(s, 4)),
+        spare: wire::byte_at(s, 5),
+        value: wire::word_at(s, 6),
+    }
+}
+
 // The first ten bytes; what follows them is not looked at. Refusals 20 and 19.
 #[tactic(auto, unfolding(crate::specs::Entry::entry_of))]
 pub fn read_entry(s: &[u8]) -> Result<Entry, Refusal>
@@ -33,13 +46,7 @@ pub fn read_entry(s: &[u8]) -> Result<Entry, Refusal>
     if !wire::starts_with(s, wire::ENTRY) {
         return Err(Refusal::WrongMark);
     }
-    Ok(Entry {
-        task: TaskNo(s[2]),
-        kind: s[3],
-        cell: CellNo(s[4]),
-        spare: s[5],
-        value: wire::word_at(s, 6),
-    })
+    Ok(entry_at(s))
 }
 
 // An entry's ten bytes from place `at` on; nothing where there is no room for them.

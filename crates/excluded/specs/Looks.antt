@@ -1,5 +1,5 @@
 -- One number of an answer that has many, so that a wrong answer can be named by it.
-use Rattle.std.specs.Prelude.{ℕ, get_or, set, Result, Ok, Err}
+use Rattle.std.specs.Prelude.{ℕ, [], ◌∷◌, get_or, Result, Ok, Err}
 use Rattle.answers.specs.Numbers.{refusal_number, refusal_or_0, number_of, value_of}
 use Rattle.tasks.specs.declared.Task.{Task}
 use Rattle.tasks.specs.Records.{no_task}
@@ -7,15 +7,20 @@ use Rattle.steps.specs.Types.{Effect}
 use Rattle.steps.specs.Table.{answer_of}
 use Rattle.entries.specs.declared.Asked.{Asked}
 use Rattle.entries.specs.declared.Asked.TheVariants.{ToGo, ToLoad, ToStore, ToRelease, ToValidate}
-use Rattle.cells.specs.Machine.{cells_by, values_by, counts_by, free_by, task_by, write_by}
+use Rattle.cells.specs.declared.Machine.{Machine}
+use Rattle.cells.specs.Machine.{left_by}
 use Rattle.runs.specs.declared.Report.{Report}
 use Rattle.runs.specs.Run.{report_of}
-use Rattle.excluded.specs.Records.{cells, values, counts}
+use Rattle.excluded.specs.Records.{made_of, cells, values, counts}
 use Rattle.answers.specs.declared.Refusal.{Refusal}
 
--- the task's record that an effect leaves; all zero if it is a refusal
+-- what an effect of task 0 leaves of a machine that has these tables, an all-zero record of that task and 2 free nodes
+abbrev pub left : Effect → Machine
+left e = left_by (made_of 1 2 5 2 cells values counts (no_task ∷ [])) (record { 0 = 0 }) e
+
+-- the task's record; all zero if the effect is a refusal
 abbrev pub task_left : Effect → Task
-task_left e = task_by e no_task
+task_left e = get_or (left e).tasks 0 no_task
 
 abbrev pub phase_left : Effect → ℕ
 phase_left e = (task_left e).phase
@@ -39,18 +44,18 @@ number_told e = number_of (answer_of e)
 abbrev pub value_told : Effect → ℕ
 value_told e = value_of (answer_of e)
 
--- what its write leaves of the tables: the cell's node, the value and the count of node v; and how many nodes are free, if 2 were
+-- the cell's node, the value and the count of node v, and how many nodes are free
 abbrev pub pointer_left : Effect → ℕ
-pointer_left e = get_or (cells_by set (write_by e) cells) 0 0
+pointer_left e = get_or (left e).cells 0 0
 
 abbrev pub value_left : ℕ → Effect → ℕ
-value_left v e = get_or (values_by set (write_by e) values) v 0
+value_left v e = get_or (left e).values v 0
 
 abbrev pub count_left : ℕ → Effect → ℕ
-count_left v e = get_or (counts_by set (write_by e) counts) v 0
+count_left v e = get_or (left e).counts v 0
 
 abbrev pub free_left : Effect → ℕ
-free_left e = free_by (write_by e) 2
+free_left e = (left e).free
 
 -- the refusal that an entry's own numbers give, 0 if none
 abbrev pub fault_found : Result Asked Refusal → ℕ

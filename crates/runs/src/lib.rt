@@ -114,7 +114,8 @@ fn run_entries(m: &mut Machine, s: &[u8], out: &mut [u8], free_nodes: &mut [u8])
     let mut report = no_report(0);
     for (i, bytes) in s.chunks(10).enumerate() {
         let e = match entries::read_entry(bytes) {
-            Ok(e) => e,
+            // read anew: what is taken out of a result goes over packed into one number, and an entry takes longer
+            Ok(_) => entries::entry_at(bytes),
             Err(r) => {
                 let number = u8::from(r);
                 reply(out, i, number, 0, 0);
@@ -123,15 +124,16 @@ fn run_entries(m: &mut Machine, s: &[u8], out: &mut [u8], free_nodes: &mut [u8])
             }
         };
         let from = m.task(e.task).phase;
-        match turns::turn(m, e) {
-            Err(r) => {
-                let number = u8::from(r);
-                reply(out, i, number, e.task.0, 0);
+        let a = turns::turn(m, e);
+        match a {
+            Err(_) => {
+                let number = answers::number(a);
+                reply(out, i, number, e.task.0, answers::value(a));
                 note(free_nodes, i, m);
                 return stopped(report, number);
             }
-            Ok(r) => {
-                reply(out, i, u8::from(r), e.task.0, answers::reply_value(r));
+            Ok(_) => {
+                reply(out, i, answers::number(a), e.task.0, answers::value(a));
                 note(free_nodes, i, m); // of the machine that this entry leaves
                 report = counted(report, e.kind, from, m.task(e.task).phase);
             }

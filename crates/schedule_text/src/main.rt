@@ -24,7 +24,7 @@ fn tell(
     requires { text_bytes made ≤ length out.now }
 {
     match made {
-        Ok(n) => rt.write_all(&out[..n]),
+        Ok(_) => rt.write_all(&out[..texts::text_bytes(made)]),
         Err(r) => refused(err, direction, r),
     }
 }

@@ -49,8 +49,13 @@ const NO_ROOM: u8 = 21;
 const TOO_LONG: u8 = 23;
 
 // How many replies a run wrote: one an accepted entry, and one for the entry that was refused.
-fn replies_in(r: Report) -> usize {
+fn replies_in(r: Report) -> usize
+    ensures { result ≤ 65535 }
+{
     let n = r.accepted as usize;
+    if 6553 < n {
+        return 0;
+    }
     match r.refusal {
         TAKEN | NO_ROOM | TOO_LONG => n,
         _ => n + 1,

@@ -15,11 +15,11 @@ use Rattle.tasks.specs.Phases.{holds}
 use Rattle.tasks.specs.Holders.{keeps, beyond_of, holders_of}
 
 -- the tally of those that hold the node is how many they are
-pub holders_counted : (ts : List Task) (v : NodeNo) → count_by (λ t. holds t.phase && eqb t.held.0 v.0) ts ≡ tally (keeps v.0) (length ts) ts
+pub holders_counted : (ts : List Task) (v : NodeNo) → count_by (λ t. eqb (keeps v.0 t) 1) ts ≡ tally (keeps v.0) (length ts) ts
 unfolding tally
-holders_counted ts v = sym (is_count_by (λ l. tally (keeps v.0) (length l) l) (λ t. holds t.phase && eqb t.held.0 v.0) refl (λ t l. one_more (holds t.phase && eqb t.held.0 v.0) _) ts)
+holders_counted ts v = sym (is_count_by (λ l. tally (keeps v.0) (length l) l) (λ t. eqb (keeps v.0 t) 1) refl (λ t l. one_more (holds t.phase && eqb t.held.0 v.0) _) ts)
   where
-    one_more : (b : Bool) (n : ℕ) → bit b + n ≡ cond b (1 + n) n
+    one_more : (b : Bool) (n : ℕ) → bit b + n ≡ cond (eqb (bit b) 1) (1 + n) n
     one_more true n = refl
     one_more false n = zero-add n
 

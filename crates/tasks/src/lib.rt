@@ -76,7 +76,7 @@ impl Task {
         Task { cursor, ..self }
     }
 
-    // The same record, made anew of its fields. `Copy` does as much; it stays for `copied_one` and three theorems of `excluded`.
+    // The same record, made anew of its fields: so it goes in and out of a table field by field, and a run is quicker.
     pub fn copied(self) -> Task
         ensures { result ≡ self }
     {
@@ -166,7 +166,7 @@ pub fn holders(ts: &[Task], node: NodeNo) -> Option<usize>
     if beyond(ts.len(), node) {
         return None;
     }
-    Some(ts.iter().filter(|t| t.holds(node)).count())
+    Some(ts.iter().filter(|t| holds_one(**t, node) == 1).count())
 }
 
 // The holders question of the first p records of a table; a table of more than 16 is refused as such a list is.

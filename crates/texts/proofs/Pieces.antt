@@ -29,7 +29,7 @@ use Rattle.texts.proofs.Scan.{is_closed_lem, not_closed}
 abbrev pub Says : List ℕ → ℕ → Result (Entry × ℕ) Refusal → Type 0
 Says s at (Err r) = bytes_made (drop at s) ≡ bad r
 Says s at (Ok (e, next)) =
-    (bytes_made (drop at s) ≡ behind (entry_bytes e) (bytes_made (drop next s))) × (at < next) × (newlines (drop at s) ≡ suc (newlines (drop next s)))
+    (bytes_made (drop at s) ≡ behind (entry_bytes e) (bytes_made (drop next s))) × (at < next) × (next ≤ length s) × (newlines (drop at s) ≡ suc (newlines (drop next s)))
 
 pub line_says : (s : List ℕ) (at : ℕ) → at < length s → Says s at (line_at s at)
 unfolding line_at line_in line_made
@@ -56,6 +56,7 @@ line_says s at h = closing (is_closed t) refl
     sizes e q true p = (
       made e ∙ rw (q, p),
       omega arith,
+      omega (arith, ap (length {A = ℕ}) e, length-append w (newline ∷ past newline t), length-drop at s),
       ap newlines e ∙ newlines-more w (past newline t) (up_to-free newline t) ∙ ap (λ (u : List ℕ). suc (newlines u)) (rest e),
     )
     sizes e q false p = made e ∙ rw (q, p)

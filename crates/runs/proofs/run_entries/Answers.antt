@@ -1,5 +1,7 @@
 -- `run_entries`: what is left of the run gives the whole.
-use Rattle.std.proofs.Common.{◌≡◌, Ok, Err, ◌+◌, rules, refl, ap, sym, ◌∙◌}
+use Rattle.std.proofs.Common.{◌≡◌, Ok, ◌+◌, rules, refl, ap, sym, ◌∙◌}
+use Rattle.entries.proofs.Laws.{read_at}
+use Rattle.runs.specs.Counts.{accepted}
 use Rattle.runs.proofs.Going.{starts, ends}
 use Rattle.runs.proofs.Turning.{next-bytes, bytes-left, more-bytes, no-bytes, unread, turned-back, taken}
 use Rattle.runs.proofs.run_entries.Goals as goal
@@ -21,23 +23,24 @@ returns-in-Err c =
     unread l.invariant.2 more c.requires.1 _ bytes c.in-Err.r (sym c.read_entry.ensures ∙ c.in-Err.is)
     _ (c.reply.ensures ∙ rw (at, n) refl) _ (c.note.ensures ∙ rw at refl) _ (c.stopped.ensures ∙ rw n refl)
 
-pub returns-in-Err-turn : goal.returns-in-Err-turn
-returns-in-Err-turn c =
+pub returns-in-Err-a : goal.returns-in-Err-a
+returns-in-Err-a c =
     let l = c.loop-i in
     let steps = c.in-Some.ensures.steps.0 in
-    let n = c.from-number-in-Err-turn.ensures in
+    let n = c.number-number.ensures in
+    let v = c.value.ensures in
     let at : c.in-Some.i ≡ l.i-iterator.count = c.in-Some.ensures.steps.1 in
     let more = more-bytes c.args.s.now l.i-iterator.count _ _ c.in-Some.bytes.now _ l.invariant.0 l.invariant.1 steps.1.0 steps.1.1 steps.1.2 in
     let bytes = next-bytes c.args.s.now l.i-iterator.count _ _ _ _ l.invariant.0 l.invariant.1 steps.1.0 steps.1.1 in
-    turned-back l.invariant.2 more c.requires.1 _ bytes c.in-Ok.e (sym c.read_entry.ensures ∙ c.in-Ok.is) c.turn.new.m (Err c.in-Err-turn.r) c.in-Err-turn.ensures
-    _ (c.reply-in-Err-turn.ensures ∙ rw (at, n) refl) _ (c.note-in-Err-turn.ensures ∙ rw at refl) _ refl (c.stopped-in-Err-turn.ensures ∙ rw n refl)
+    turned-back l.invariant.2 more c.requires.1 _ bytes c.entry_at-e.result (read_at _ _ (sym c.read_entry.ensures ∙ c.in-Ok.is) ∙ ap Ok (sym c.entry_at-e.ensures)) c.turn-a.new.m c.turn-a.result c.turn-a.ensures
+    _ (c.reply-in-Err-a.ensures ∙ rw (at, n, v) refl) _ (c.note-in-Err-a.ensures ∙ rw at refl) _ (ap accepted c.in-Err-a.is) (c.stopped-in-Err-a.ensures ∙ rw n refl)
 
 pub loop-i-preserved : goal.loop-i-preserved
 loop-i-preserved c =
     let l = c.loop-i in
     let steps = c.in-Some.ensures.steps.0 in
-    let n = c.from.ensures in
-    let v = c.reply_value.ensures in
+    let n = c.number.ensures in
+    let v = c.value-in-Ok-a.ensures in
     let at : c.in-Some.i ≡ l.i-iterator.count = c.in-Some.ensures.steps.1 in
     let next : c.next.new.self.count ≡ l.i-iterator.count + 1 = c.in-Some.ensures.steps.2 in
     let more = more-bytes c.args.s.now l.i-iterator.count _ _ c.in-Some.bytes.now _ l.invariant.0 l.invariant.1 steps.1.0 steps.1.1 steps.1.2 in
@@ -45,8 +48,8 @@ loop-i-preserved c =
       steps.0 ∙ l.invariant.0,
       bytes-left c.args.s.now l.i-iterator.count _ _ _ _ l.invariant.0 l.invariant.1 steps.1.0 steps.1.1 ∙ rw next refl,
       rw next
-          (taken l.invariant.2 more c.requires.1 _ bytes c.in-Ok.e (sym c.read_entry.ensures ∙ c.in-Ok.is) c.turn.new.m (Ok c.in-Ok-turn.r) c.in-Ok-turn.ensures
-          _ (c.reply-in-Ok-turn.ensures ∙ rw (at, n, v) refl) _ (c.note-in-Ok-turn.ensures ∙ rw at refl) _ refl
+          (taken l.invariant.2 more c.requires.1 _ bytes c.entry_at-e.result (read_at _ _ (sym c.read_entry.ensures ∙ c.in-Ok.is) ∙ ap Ok (sym c.entry_at-e.ensures)) c.turn-a.new.m c.turn-a.result c.turn-a.ensures
+          _ (c.reply-in-Ok-a.ensures ∙ rw (at, n, v) refl) _ (c.note-in-Ok-a.ensures ∙ rw at refl) _ (ap accepted c.in-Ok-a.is)
           (c.counted-report.ensures ∙ rw (c.task-from.ensures, c.task.ensures) refl)),
     )
 

@@ -25,7 +25,7 @@ loop-at-preserved c =
     let l = c.loop-at in
     let x = c.in_ok-next in
     let t = line_tells c.args.text.now l.at (Ok (x.field-0-0, x.next)) (omega arith) x.ensures in
-    (check_on bytes_made c.args.text.now _ _ (entry_bytes x.field-0-0) _ l.invariant.0 t.0, omega (arith, l.invariant.1, t.2))
+    (check_on bytes_made c.args.text.now _ _ (entry_bytes x.field-0-0) _ l.invariant.0 t.0, omega (arith, l.invariant.1, t.3))
 
 pub returns : goal.returns
 returns c = check_ends bytes_made c.args.text.now (drop c.loop-at.at c.args.text.now) _ c.loop-at.invariant.0 (omega (arith, length-drop {A = ℕ})) nothing_made
