@@ -142,7 +142,7 @@ pub fn write_free(free: u8, w: Write) -> u8
     }
 }
 
-// Whose record stands for task p's: its own, or the last for a number past the 16th.
+// Whose record stands for task p's: its own, or the last for a number past the 16th. The compiler makes no branch of it.
 fn placed(p: TaskNo) -> TaskNo
     ensures { result ≡ placed p }
 {
@@ -156,7 +156,7 @@ impl Machine {
         tables::task_at(&self.tasks, p)
     }
 
-    // The same, where a number past the 16th stands for the last: so no branch is taken on it.
+    // The same, where a number past the 16th stands for the last.
     pub fn task(&self, p: TaskNo) -> Task
         ensures { result ≡ task_in self.now.tasks (placed p) }
     {

@@ -76,7 +76,7 @@ impl Task {
         Task { cursor, ..self }
     }
 
-    // The same record, made anew of its fields: so it goes in and out of a table field by field, and a run is quicker.
+    // The same record, made anew of its fields. A run's records go in and out of their table so.
     pub fn copied(self) -> Task
         ensures { result ≡ self }
     {

@@ -63,7 +63,7 @@ pub fn turn(m: &mut Machine, e: Entry) -> Answer
 {
     let p = e.task;
     let t = m.task(p);
-    // `Entry { ..e }`, made anew of its fields: `e` as it is goes over packed into one number, and an entry takes a sixteenth longer
+    // `Entry { ..e }`, made anew of its fields: `e` as it is goes over packed into one number, and an entry takes a twentieth longer
     match entries::asks(m.n, m.p, Entry { ..e })? {
         Asked::ToGo => go(m, p),
         Asked::ToLoad(x) => carry(m, p, entries::load(t, x)),
