@@ -1,5 +1,5 @@
 -- Writing the digits of a number from its last one on: what is left to write gives the whole. Assumes nothing.
-use Prim.Native.Nat.{ℕ, zero, suc, ◌+◌, ◌-◌, ◌*◌, ◌/◌, ◌%◌, ◌^◌, ◌≤◌, ◌<◌}
+use Prim.Native.Nat.{ℕ, zero, suc, max, ◌+◌, ◌-◌, ◌*◌, ◌/◌, ◌%◌, ◌^◌, ◌≤◌, ◌<◌}
 use native.Mathlib.Omega.{arith}
 use native.Mathlib.Decide.{dec_lt}
 use mathlib.Core.Path.{◌≡◌, refl, sym, ap, ◌∙◌}
@@ -29,12 +29,16 @@ pub length_one : (n : ℕ) → n < 10 → length (decimal n) ≡ 1
 length_one n h = ap length (decimal_one n h)
 
 -- how many digits, by a power of ten
-pub length_power : (k n : ℕ) → 1 ≤ n → 10 ^ k ≤ n → n < 10 * 10 ^ k → length (decimal n) ≡ k + 1
-length_power zero n some h l = length_one n (omega arith)
-length_power (suc k) n some h l =
+pub length_power : (k n : ℕ) → 10 ^ k ≤ max n 1 → max n 1 < 10 * 10 ^ k → length (decimal n) ≡ k + 1
+length_power zero n h l = length_one n (omega arith)
+length_power (suc k) n h l =
     let p : 1 ≤ 10 ^ k = one-le-pow k 10 (omega arith) in
     let e : 10 ^ suc k ≡ 10 * 10 ^ k = pow-succ' 10 k in
-    length_last n (omega arith) ∙ ap (λ (m : ℕ). m + 1) (length_power k (n / 10) (omega arith) (omega arith) (omega arith)) ∙ omega arith
+    length_last n (omega arith) ∙ ap (λ (m : ℕ). m + 1) (length_power k (n / 10) (omega arith) (omega arith)) ∙ omega arith
+
+-- the same of a number that is not 0
+pub length_log : (k n : ℕ) → 1 ≤ n → 10 ^ k ≤ n → n < 10 * 10 ^ k → length (decimal n) ≡ k + 1
+length_log k n some h l = length_power k n (omega arith) (omega arith)
 
 -- at least one, and two from ten on
 pub length_some : (n : ℕ) → 1 ≤ length (decimal n)

@@ -60,7 +60,7 @@ pub fn number_at(s: &[u8], at: usize) -> Option<(u64, usize)>
 }
 
 // How many digits n has: one for 0 too. Most have one, and need no logarithm.
-#[tactic(auto, using(crate::proofs::Writing::length_one, crate::proofs::Writing::length_power))]
+#[tactic(auto, using(crate::proofs::Writing::length_one, crate::proofs::Writing::length_log))]
 pub fn digits_in(n: u32) -> usize
     ensures { result ≡ length (decimal n) }
 {
