@@ -76,9 +76,9 @@ range_tests m =
 
 -- an entry that is accepted names its task's own place
 module _ (m : Machine) where
-  guarded_does : (x : Deed) (b : Bool) (d : Decision) → (guarded b d).effect ≡ Ok x → (b ≡ true → d.effect ≡ Ok x → d.task ≤ 15) → (guarded b d).task ≤ 15
-  guarded_does x true d h f = f refl h
-  guarded_does x false d h f = let z : ◌≡◌ {A = ℕ} 0 1 = cc in absurd (omega arith)
+  guarded_does : (R : ℕ → Type 0) (x : Deed) (b : Bool) (d : Decision) → (guarded b d).effect ≡ Ok x → (b ≡ true → d.effect ≡ Ok x → R d.task) → R (guarded b d).task
+  guarded_does R x true d h f = f refl h
+  guarded_does R x false d h f = let z : ◌≡◌ {A = ℕ} 0 1 = cc in absurd (omega arith)
 
   judged_does : (x : Deed) (r : Result Entry Refusal) → m.p ≤ 16 → (judged_of m.n m.p (task_in m.tasks) (seen_of m) r).effect ≡ Ok x → (judged_of m.n m.p (task_in m.tasks) (seen_of m) r).task ≤ 15
   unfolding judged_of
@@ -87,13 +87,9 @@ module _ (m : Machine) where
 
   pub decision_does : (s : List ℕ) (x : Deed) → (decision_of m s).effect ≡ Ok x → (decision_of m s).task ≤ 15
   unfolding decision_of
-  decision_does s x h = guarded_does x (in_range m) _ h (λ g i. judged_does x (entry_of s) (few_in_range m g) i)
+  decision_does s x h = guarded_does (λ k. k ≤ 15) x (in_range m) _ h (λ g i. judged_does x (entry_of s) (few_in_range m g) i)
 
   -- which is the number in byte 2
-  guarded_names : (i : ℕ) (x : Deed) (b : Bool) (d : Decision) → (guarded b d).effect ≡ Ok x → (d.effect ≡ Ok x → i ≡ d.task) → i ≡ (guarded b d).task
-  guarded_names i x true d h f = f h
-  guarded_names i x false d h f = let z : ◌≡◌ {A = ℕ} 0 1 = cc in absurd (omega arith)
-
   judged_names : (s : List ℕ) (x : Deed) (r : Result Entry Refusal) → entry_of s ≡ r → (judged_of m.n m.p (task_in m.tasks) (seen_of m) r).effect ≡ Ok x
       → get_or s 2 0 ≡ (judged_of m.n m.p (task_in m.tasks) (seen_of m) r).task
   unfolding judged_of
@@ -102,7 +98,7 @@ module _ (m : Machine) where
 
   pub decision_names : (s : List ℕ) (x : Deed) → (decision_of m s).effect ≡ Ok x → get_or s 2 0 ≡ (decision_of m s).task
   unfolding decision_of
-  decision_names s x h = guarded_names (get_or s 2 0) x (in_range m) _ h (judged_names s x (entry_of s) refl)
+  decision_names s x h = guarded_does (λ k. get_or s 2 0 ≡ k) x (in_range m) _ h (λ g i. judged_names s x (entry_of s) refl i)
 
   -- so it is written there
   pub left_placed : (p : TaskNo) (e : Effect) → ((x : Deed) → e ≡ Ok x → p.0 ≤ 15) → left_by m (placed p) e ≡ left_by m p e

@@ -59,7 +59,7 @@ pub fn number_at(s: &[u8], at: usize) -> Option<(u64, usize)>
     Some((value, end))
 }
 
-// How many digits n has: one for 0 too. Most have one, and need no logarithm.
+// How many digits n has: one for 0 too. Most numbers have one, and need no logarithm.
 #[tactic(auto, using(crate::proofs::Writing::length_one, crate::proofs::Writing::length_log))]
 pub fn digits_in(n: u32) -> usize
     ensures { result ≡ length (decimal n) }
@@ -67,7 +67,7 @@ pub fn digits_in(n: u32) -> usize
     if n < 10 { 1 } else { n.ilog10() as usize + 1 }
 }
 
-// The digits of n from place `at` up to place `end`, the last one first. The first is what is left: so a number of one digit is not divided.
+// The digits of n from place `at` up to place `end`, the last one first. The first is what is left, and not divided.
 #[tactic(auto, using(crate::proofs::Writing::length_some, crate::proofs::Writing::writing_starts, crate::proofs::Writing::one_left, crate::proofs::Writing::writing_ends))]
 fn put_digits(out: &mut [u8], at: usize, end: usize, n: u32)
     requires { (end ≡ at + length (decimal n)) × (end ≤ length out.old) }

@@ -102,13 +102,7 @@ bytes_back b e small ten h =
 
 -- it is the one that the ten bytes are
 pub read_at : (s : List ℕ) (e : Entry) → entry_of s ≡ Ok e → entry_of s ≡ Ok (entry_at s)
-unfolding entry_of
-read_at s e = go (ltb (length s) 10) (marked entry_mark s) refl refl
-  where
-    go : (t m : Bool) → ltb (length s) 10 ≡ t → marked entry_mark s ≡ m → entry_of s ≡ Ok e → entry_of s ≡ Ok (entry_at s)
-    go true m q r h = let z : ◌≡◌ {A = Result Entry Refusal} (Err TooShort) (Ok e) = rw q at h in let n : ◌≡◌ {A = ℕ} 0 1 = cc in absurd (omega arith)
-    go false false q r h = let z : ◌≡◌ {A = Result Entry Refusal} (Err WrongMark) (Ok e) = rw (q, r) at h in let n : ◌≡◌ {A = ℕ} 0 1 = cc in absurd (omega arith)
-    go false true q r h = rw (q, r) refl
+read_at s e h = let r = entry_read s e h in rw (← r.task, ← r.kind, ← r.cell, ← r.spare, ← r.value) h
 
 -- and its value has 32 bits
 pub value-small : (s : List ℕ) (e : Entry) → Bytes s → entry_of s ≡ Ok e → e.value < 4294967296

@@ -22,7 +22,7 @@ pub struct Entry {
     pub value: u32,
 }
 
-// The entry that the first ten bytes are, whatever their mark; one that is not there counts as 0.
+// The entry that the first ten bytes are, whatever their mark; a byte that is not there counts as 0.
 pub fn entry_at(s: &[u8]) -> Entry
     ensures { result ≡ entry_at s.now }
 {

@@ -19,7 +19,7 @@ pub fn carry(m: &mut Machine, p: TaskNo, e: Effect) -> Answer
     m.carry(p, e)
 }
 
-// The row of a phase that has one, carried out. Each arm looks and writes for itself: with `steps::step`, and one `carry` behind it, an entry takes a quarter longer.
+// The row of a phase that has one, carried out. Each arm looks and writes for itself: with `steps::step`, and one `carry` behind it, an entry takes a sixth longer.
 fn row(m: &mut Machine, p: TaskNo, t: Task) -> Answer
     requires { (1 ≤ t.phase) × (t.phase ≤ 15) × (t.phase ≢ 6) × (t.phase ≢ 10) }
     ensures { Carries m.old p (effect_of t (seen_of m.old t)) m.new result }
